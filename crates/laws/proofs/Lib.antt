@@ -1,0 +1,6 @@
+pub mod Equal
+pub mod Loops
+pub mod Meaning
+pub mod Parts
+pub mod Rows
+pub mod Tests

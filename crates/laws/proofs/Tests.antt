@@ -1,0 +1,48 @@
+-- Tests put together by code that asks the second only where it matters, and tests of what may be absent. Assumes nothing.
+use Prim.Native.Nat.{ℕ}
+use mathlib.Core.Path.{_≡_, refl, sym}
+use mathlib.Core.Bool.{Bool, true, false, _&&_, _||_, false≢true}
+use mathlib.Core.Option.{Option, none, some}
+use lib.Dec.{eqb}
+use borrow.Author.Tests.{eq-eqb, ne-eqb}
+use Rattle.laws.specs.Lists.{pick, unlessZero, given}
+
+-- r answers p and s answers q: what `p && q` and `p || q` answer
+module _ {r p : Bool} (e : r ≡ p) where
+  pub and-then : {s q : Bool} → r ≡ true → s ≡ q → s ≡ (p && q)
+  and-then y t = rw (← e, y) t
+
+  pub and-stop : (q : Bool) → r ≡ false → false ≡ (p && q)
+  and-stop q y = rw (← e, y) refl
+
+  pub or-then : {s q : Bool} → r ≡ false → s ≡ q → s ≡ (p || q)
+  or-then y t = rw (← e, y) t
+
+  pub or-stop : (q : Bool) → r ≡ true → true ≡ (p || q)
+  or-stop q y = rw (← e, y) refl
+
+-- a test that chooses between two others
+pub pick-true : {A : Type 0} {t : Bool} (a b : A) → t ≡ true → pick t a b ≡ a
+pick-true a b e = rw e refl
+
+pub pick-false : {A : Type 0} {t : Bool} (a b : A) → t ≡ false → pick t a b ≡ b
+pick-false a b e = rw e refl
+
+-- both halves of an `&&` that holds
+pub and-left : (p q : Bool) → (p && q) ≡ true → p ≡ true
+and-left true q h = refl
+and-left false q h = h
+
+pub and-right : (p q : Bool) → (p && q) ≡ true → q ≡ true
+and-right true q h = h
+and-right false q h = absurd (false≢true h)
+
+-- what may be absent: k is the code c as it was read
+module _ {A : Type 0} (d : Bool) (f : A → Bool) (x : A) (c : ℕ) {k : ℕ} (e : k ≡ c) where
+  pub absent : k ≡ 0 → d ≡ given d f (unlessZero c x)
+  unfolding given unlessZero
+  absent h = rw (← e, eq-eqb k 0 h) refl
+
+  pub present : {r : Bool} → (k ≡ 0 → ⊥) → r ≡ f x → r ≡ given d f (unlessZero c x)
+  unfolding given unlessZero
+  present h t = rw (← e, ne-eqb k 0 h) t

@@ -1,0 +1,1 @@
+// Laws only: definitions in specs/, what is proved of them in proofs/.

@@ -1,0 +1,133 @@
+-- Texts: what lowering keeps, beginnings and ends, covering. Assumes nothing.
+use Prim.Native.Nat.{ℕ, zero, suc, _+_, _-_, _≤_, _<_}
+use native.Mathlib.Omega.{arith}
+use native.Mathlib.Decide.{decLt}
+use mathlib.Core.Path.{_≡_, refl, sym, ap, ap₂, _∙_}
+use mathlib.Core.List.{List, [], _∷_, _++_, map}
+use mathlib.Core.Bool.{Bool, true, false, _&&_, _||_, and-true}
+use lib.Dec.{leb, eqb}
+use lib.ListN.{length, getD, drop, take, length-drop, length-map, List·getD-map}
+use lib.Seq.{drop-cons}
+use borrow.Author.Tests.{eq-eqb, ne-eqb, eqb-true, eqb-false, le-leb, lt-leb}
+use Rattle.laws.specs.Lists.{each, eqList, any, isEmpty}
+use Rattle.laws.proofs.Equal.{each-map, each-length}
+use Rattle.laws.proofs.Parts.{rest, map-drop}
+use Rattle.laws.proofs.Tests.{and-then, and-stop}
+use Rattle.text.specs.Bytes.{isDot, dot, lowerByte, classOf}
+use Rattle.text.specs.Texts.{Text, quoted, lowered, takenByte, taken, startsWith, endsWith, covers, matchDnsName}
+use Rattle.text.proofs.Chars.{class-dot, lower-dot}
+use Rattle.text.specs.declared.Letters.{Letters}
+use Rattle.text.specs.declared.Letters.the-variants.{AsGiven, Lowered}
+
+-- ---- a pattern's byte against a name's, by how the letters are taken
+module _ (letters : Letters) (x y : ℕ) {r : ℕ} (t : r ≡ lowerByte y) where
+  pub as-given : letters ≡ AsGiven → eqb x r ≡ eqb (takenByte letters x) (lowerByte y)
+  as-given e = rw (e, t) refl
+
+  pub both-lowered : {s : ℕ} → s ≡ lowerByte x → letters ≡ Lowered → eqb s r ≡ eqb (takenByte letters x) (lowerByte y)
+  both-lowered u e = rw (e, u, t) refl
+
+pub taken-each : (letters : Letters) (p n : Text) → eqList (taken letters p) (lowered n) ≡ each (λ x y. eqb (takenByte letters x) (lowerByte y)) p n
+unfolding taken lowered
+taken-each letters p n = each-map eqb (takenByte letters) lowerByte p n
+
+-- ---- beginnings
+module _ (s r : Text) where
+  pub start-short : length s < length r → false ≡ startsWith s r
+  unfolding startsWith
+  start-short h = rw (lt-leb (length r) (length s) h) refl
+
+  pub start-same : {t : Bool} → length r ≤ length s → t ≡ eqList r (take (length r) s) → t ≡ startsWith s r
+  unfolding startsWith
+  start-same h e = e ∙ rw (le-leb (length r) (length s) h) refl
+
+-- ---- ends, of texts whose bytes are changed one by one
+module _ (letters : Letters) (s r : Text) where
+  ends-opened : endsWith (lowered s) (taken letters r) ≡ (leb (length r) (length s) && eqList (taken letters r) (lowered (drop (length s - length r) s)))
+  unfolding endsWith lowered taken
+  ends-opened = rw (length-map s lowerByte, length-map r (takenByte letters), map-drop lowerByte (length s - length r) s) refl
+
+  pub end-short : length s < length r → false ≡ endsWith (lowered s) (taken letters r)
+  end-short h = rw (ends-opened, lt-leb (length r) (length s) h) refl
+
+  pub end-same : {t : Bool} → length r ≤ length s → t ≡ eqList (taken letters r) (lowered (take (length s - (length s - length r)) (drop (length s - length r) s))) → t ≡ endsWith (lowered s) (taken letters r)
+  end-same h e = e ∙ rw (ends-opened, le-leb (length r) (length s) h, rest (length s - length r) s) refl
+
+-- ---- covering, told by lengths, one dot and one comparison
+eqb-sym : (a b : ℕ) → eqb a b ≡ eqb b a
+eqb-sym a b = go (eqb a b) refl where
+  go : (t : Bool) → eqb a b ≡ t → t ≡ eqb b a
+  go true h = sym (eq-eqb b a (sym (eqb-true a b h)))
+  go false h = sym (ne-eqb b a (λ e. eqb-false a b h (sym e)))
+
+cover-empty : (c n : Text) → length c ≡ 0 → true ≡ covers c n
+unfolding covers
+cover-empty [] n h = refl
+cover-empty (x ∷ c) n h = absurd (omega arith)
+
+absorb : (e s g : Bool) → (e && (e || s || g)) ≡ e
+absorb true s g = refl
+absorb false s g = refl
+
+-- a name that is no longer than the constraint is covered only if it is the same
+cover-short : (c n : Text) → (length c ≡ 0 → ⊥) → length n ≤ length c → eqList c n ≡ covers c n
+unfolding covers endsWith
+cover-short [] n k h = absurd (k refl)
+cover-short (x ∷ c) n k h = elim (decLt (length n) (length (x ∷ c)))
+    [ yes l ↦ rw (each-length eqb (x ∷ c) n (λ e. omega arith), lt-leb (length (x ∷ c)) (length n) l) refl
+    | no m ↦ let z : length n - length (x ∷ c) ≡ 0 = omega arith in rw (le-leb (length (x ∷ c)) (length n) (omega arith), z) (sym (absorb (eqList (x ∷ c) n) _ _)) ]
+
+-- the dot that begins the constraint, or stands in the name before the end that is as long
+abbrev dotted : Text → Text → Bool
+dotted c n = isDot (getD c 0 0) || isDot (getD n (length n - length c - 1) 0)
+
+begins : (x : ℕ) (c : Text) → startsWith (x ∷ c) (quoted ".") ≡ isDot x
+unfolding startsWith each
+begins x c = rw (le-leb 1 (length (x ∷ c)) (omega arith), and-true (eqb 46 x)) (eqb-sym 46 x)
+
+before : (c n : Text) → length c < length n → endsWith n (quoted "." ++ c) ≡ (isDot (getD n (length n - length c - 1) 0) && endsWith n c)
+unfolding endsWith each
+before c n h =
+    let k : length n - suc (length c) ≡ length n - length c - 1 = omega arith in
+    let l : suc (length n - length c - 1) ≡ length n - length c = omega arith in
+    rw (le-leb (suc (length c)) (length n) h, le-leb (length c) (length n) (omega arith), k, drop-cons n (length n - length c - 1) 0 (omega arith), l, eqb-sym 46 (getD n (length n - length c - 1) 0)) refl
+
+order : (e s g : Bool) → (e && (s || (g && e))) ≡ ((s || g) && e)
+order true true g = refl
+order true false true = refl
+order true false false = refl
+order false true g = refl
+order false false true = refl
+order false false false = refl
+
+cover-longer : (c n : Text) → (length c ≡ 0 → ⊥) → length c < length n → covers c n ≡ (dotted c n && endsWith n c)
+unfolding covers
+cover-longer [] n k h = absurd (k refl)
+cover-longer (x ∷ c) n k h =
+    rw (each-length eqb (x ∷ c) n (λ e. omega arith), begins x c, before (x ∷ c) n h)
+    (order (endsWith n (x ∷ c)) (isDot x) (isDot (getD n (length n - length (x ∷ c) - 1) 0)))
+
+-- the same once both are lowered, as the code asks it
+module _ (c n : Text) where
+  pub match-empty : length c ≡ 0 → true ≡ matchDnsName c n
+  unfolding matchDnsName lowered
+  match-empty h = cover-empty (lowered c) (lowered n) (length-map c lowerByte ∙ h)
+
+  module _ (k : length c ≡ 0 → ⊥) where
+    pub match-short : {r : Bool} → length n ≤ length c → r ≡ eqList (taken Lowered c) (lowered n) → r ≡ matchDnsName c n
+    unfolding matchDnsName lowered taken
+    match-short h e = e ∙ cover-short (lowered c) (lowered n) (rw (length-map c lowerByte) k) (rw (length-map c lowerByte, length-map n lowerByte) h)
+
+    match-longer : length c < length n → matchDnsName c n ≡ (dotted c n && endsWith (lowered n) (taken Lowered c))
+    unfolding matchDnsName lowered taken lowerByte
+    match-longer h = cover-longer (lowered c) (lowered n) (rw (length-map c lowerByte) k) (rw (length-map c lowerByte, length-map n lowerByte) h) ∙ rw (length-map c lowerByte, length-map n lowerByte, List·getD-map lowerByte c 0 0, List·getD-map lowerByte n (length n - length c - 1) 0, lower-dot (getD c 0 0), lower-dot (getD n (length n - length c - 1) 0)) refl
+
+    module _ {d : Bool} (h : length c < length n) (e : d ≡ (eqb (classOf (getD c 0 0)) dot || eqb (classOf (getD n (length n - length c - 1) 0)) dot)) where
+      dots : d ≡ dotted c n
+      dots = e ∙ ap₂ _||_ (class-dot (getD c 0 0)) (class-dot (getD n (length n - length c - 1) 0))
+
+      pub match-dot : {r : Bool} → d ≡ true → r ≡ endsWith (lowered n) (taken Lowered c) → r ≡ matchDnsName c n
+      match-dot y t = and-then dots y t ∙ sym (match-longer h)
+
+      pub match-none : d ≡ false → false ≡ matchDnsName c n
+      match-none y = and-stop dots _ y ∙ sym (match-longer h)

@@ -1,0 +1,3 @@
+pub mod Chars
+pub mod Entries
+pub mod Laws
