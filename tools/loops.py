@@ -11,7 +11,7 @@ ROWS = [
         "function": "has_class",
         "parameters": "s class",
         "slices": ["s"],
-        "test": "is_class",
+        "test": "is_class_in",
         "definition": "(λ x. eqb (classOf x) class)",
         "uses": ["lib.Dec.{eqb}", "Rattle.text.specs.Bytes.{classOf}"],
     },
@@ -54,12 +54,13 @@ def over_one(row, test):
     """The answers of a loop over one slice that stops at the first byte for which the test says so."""
     kind = row["kind"]
     stop, go = ("taken", "left") if kind == "any" else ("left", "taken")
-    steps = f"{path(3, 'loop-test .taken')} {path(1, test + ' .ensures')}"
-    turn = f"{kind}-%s _ _ _ _ {steps} {path(0, 'if1 .%s')} {path(4, 'loop .inv')}"
+    steps = f"{path(4, 'loop-test .taken')} {path(1, test + ' .ensures')}"
+    turn = f"{kind}-%s _ _ _ _ {steps} {path(0, 'if1 .%s')} {path(5, 'loop .inv')}"
     answers = {
+        "whole-requires": "search needs",
         "loop-holds": f"{kind}-start 0 _ _",
         f"shared-slice-read-{test}": "search needs",
-        f"{test}-requires": "search needs",
+        f"{test}-requires": f"{path(4, 'whole .ensures')}",
         "returns": turn % ("here", stop),
         "add-i": "search needs",
         "loop-less": "search needs",
@@ -94,6 +95,7 @@ def proof(row):
     kind, crate, function = row["kind"], row["crate"], row["function"]
     test = row["test"].replace("_", "-")
     answers, laws = (over_two if kind == "each" else over_one)(row, test)
+    locals_ = row["parameters"] + (" i₀ i" if kind == "each" else " table i₀ i")
     rows = " ".join(f"(rows (at 0 {s}) i (length {s}))" for s in row["slices"])
     whole = row.get("whole", f"{kind} {row['definition']} {' '.join(row['slices'])}")
     home = f"Rattle.{crate}.proofs.{function}"
@@ -113,10 +115,10 @@ def proof(row):
         f"use {home}.Tie as tie",
         "",
         "abbrev Inv-loop : tie.InvT-loop",
-        f"Inv-loop {row['parameters']} i₀ i = {whole} ≡ {kind} {row['definition']} {rows}",
+        f"Inv-loop {locals_} = {whole} ≡ {kind} {row['definition']} {rows}",
         "",
         "abbrev μ-loop : tie.MeasureT-loop",
-        f"μ-loop {row['parameters']} i₀ i = length {row['slices'][0]} - i",
+        f"μ-loop {locals_} = length {row['slices'][0]} - i",
         "",
     ]
     for need, answer in answers.items():

@@ -2,7 +2,7 @@
 use Prim.Native.Nat.{ℕ, zero, suc, _+_, _-_, _≤_, _<_}
 use native.Mathlib.Omega.{arith}
 use native.Mathlib.Decide.{decLt}
-use native.Mathlib.Nat.{sub-zero}
+use native.Mathlib.Nat.{add-zero, sub-zero}
 use native.Mathlib.Numerals.{add-one}
 use mathlib.Core.Path.{_≡_, refl, sym, ap, _∙_}
 use mathlib.Core.List.{List, [], _∷_}
@@ -29,6 +29,16 @@ module _ {A : Type 0} (g : ℕ → A) where
   pub rows-length : (a e : ℕ) → length (rows g a e) ≡ e - a
   unfolding rows
   rows-length a e = run-length a (e - a)
+
+  run-at : (d : A) (a k n : ℕ) → n < k → getD (run g a k) n d ≡ g (a + n)
+  unfolding run
+  run-at d a zero n h = absurd (omega arith)
+  run-at d a (suc k) zero h = rw add-zero refl
+  run-at d a (suc k) (suc n) h = let q : a + suc n ≡ a + 1 + n = omega arith in rw q (run-at d (a + 1) k n (omega arith))
+
+  pub rows-at : (d : A) (a e n : ℕ) → a + n < e → getD (rows g a e) n d ≡ g (a + n)
+  unfolding rows
+  rows-at d a e n h = run-at d a (e - a) n (omega arith)
 
   pub rows-empty : (a e : ℕ) → isEmpty (rows g a e) ≡ leb e a
   rows-empty a e = elim (decLt a e) [ yes m ↦ rw (rows-step a e m) (sym (lt-leb e a m)) | no n ↦ let h : e ≤ a = omega arith in rw (rows-end a e h) (sym (le-leb e a h)) ]

@@ -1,7 +1,7 @@
 -- Tests put together by code that asks the second only where it matters, and tests of what may be absent. Assumes nothing.
 use Prim.Native.Nat.{ℕ}
 use mathlib.Core.Path.{_≡_, refl, sym}
-use mathlib.Core.Bool.{Bool, true, false, _&&_, _||_, false≢true}
+use mathlib.Core.Bool.{Bool, true, false, _&&_, _||_, false≢true, true≢false}
 use mathlib.Core.Option.{Option, none, some}
 use lib.Dec.{eqb}
 use borrow.Author.Tests.{eq-eqb, ne-eqb}
@@ -36,6 +36,15 @@ and-left false q h = h
 pub and-right : (p q : Bool) → (p && q) ≡ true → q ≡ true
 and-right true q h = h
 and-right false q h = absurd (false≢true h)
+
+-- both halves of an `||` that doesn't hold
+pub or-left : (p q : Bool) → (p || q) ≡ false → p ≡ false
+or-left true q h = absurd (true≢false h)
+or-left false q h = refl
+
+pub or-right : (p q : Bool) → (p || q) ≡ false → q ≡ false
+or-right true q h = absurd (true≢false h)
+or-right false q h = h
 
 -- what may be absent: k is the code c as it was read
 module _ {A : Type 0} (d : Bool) (f : A → Bool) (x : A) (c : ℕ) {k : ℕ} (e : k ≡ c) where

@@ -12,20 +12,24 @@ use borrow.Author.Tests.{eq-eqb, ne-eqb, eqb-true, eqb-false, le-leb, lt-leb}
 use Rattle.laws.specs.Lists.{each, eqList, any, isEmpty}
 use Rattle.laws.proofs.Equal.{each-map, each-length}
 use Rattle.laws.proofs.Parts.{rest, map-drop}
-use Rattle.laws.proofs.Tests.{and-then, and-stop}
-use Rattle.text.specs.Bytes.{isDot, dot, lowerByte, classOf}
+use Rattle.text.specs.Bytes.{isUpper, isDot, dot, lowerByte, classOf}
 use Rattle.text.specs.Texts.{Text, quoted, lowered, takenByte, taken, startsWith, endsWith, covers, matchDnsName}
-use Rattle.text.proofs.Chars.{class-dot, lower-dot}
+use Rattle.text.proofs.Chars.{class-dot, lower-dot, far-apart}
 use Rattle.text.specs.declared.Letters.{Letters}
 use Rattle.text.specs.declared.Letters.the-variants.{AsGiven, Lowered}
 
 -- ---- a pattern's byte against a name's, by how the letters are taken
-module _ (letters : Letters) (x y : ℕ) {r : ℕ} (t : r ≡ lowerByte y) where
-  pub as-given : letters ≡ AsGiven → eqb x r ≡ eqb (takenByte letters x) (lowerByte y)
-  as-given e = rw (e, t) refl
+pub apart : (letters : Letters) (x y : ℕ) {r : Bool} → r ≡ (eqb x y || eqb (x + 32) y || eqb (y + 32) x) → r ≡ false → false ≡ eqb (takenByte letters x) (lowerByte y)
+unfolding lowerByte
+apart AsGiven x y e h = sym (far-apart false (isUpper y) x y (sym e ∙ h))
+apart Lowered x y e h = sym (far-apart (isUpper x) (isUpper y) x y (sym e ∙ h))
 
-  pub both-lowered : {s : ℕ} → s ≡ lowerByte x → letters ≡ Lowered → eqb s r ≡ eqb (takenByte letters x) (lowerByte y)
-  both-lowered u e = rw (e, u, t) refl
+module _ (letters : Letters) (x y : ℕ) where
+  pub as-given : letters ≡ AsGiven → {r : ℕ} → r ≡ lowerByte y → eqb x r ≡ eqb (takenByte letters x) (lowerByte y)
+  as-given e t = rw (e, t) refl
+
+  pub both-lowered : letters ≡ Lowered → {r : Bool} → r ≡ eqb (lowerByte x) (lowerByte y) → r ≡ eqb (takenByte letters x) (lowerByte y)
+  both-lowered e t = t ∙ rw e refl
 
 pub taken-each : (letters : Letters) (p n : Text) → eqList (taken letters p) (lowered n) ≡ each (λ x y. eqb (takenByte letters x) (lowerByte y)) p n
 unfolding taken lowered
@@ -69,13 +73,19 @@ absorb : (e s g : Bool) → (e && (e || s || g)) ≡ e
 absorb true s g = refl
 absorb false s g = refl
 
--- a name that is no longer than the constraint is covered only if it is the same
-cover-short : (c n : Text) → (length c ≡ 0 → ⊥) → length n ≤ length c → eqList c n ≡ covers c n
+-- a name with another end isn't covered
+cover-other : (c n : Text) → (length c ≡ 0 → ⊥) → endsWith n c ≡ false → covers c n ≡ false
+unfolding covers
+cover-other [] n k h = absurd (k refl)
+cover-other (x ∷ c) n k h = rw h refl
+
+-- a name that is no longer than the constraint is covered if it ends with it
+cover-short : (c n : Text) → (length c ≡ 0 → ⊥) → length n ≤ length c → covers c n ≡ endsWith n c
 unfolding covers endsWith
 cover-short [] n k h = absurd (k refl)
 cover-short (x ∷ c) n k h = elim (decLt (length n) (length (x ∷ c)))
-    [ yes l ↦ rw (each-length eqb (x ∷ c) n (λ e. omega arith), lt-leb (length (x ∷ c)) (length n) l) refl
-    | no m ↦ let z : length n - length (x ∷ c) ≡ 0 = omega arith in rw (le-leb (length (x ∷ c)) (length n) (omega arith), z) (sym (absorb (eqList (x ∷ c) n) _ _)) ]
+    [ yes l ↦ rw (lt-leb (length (x ∷ c)) (length n) l) refl
+    | no m ↦ let z : length n - length (x ∷ c) ≡ 0 = omega arith in rw (le-leb (length (x ∷ c)) (length n) (omega arith), z) (absorb (eqList (x ∷ c) n) _ _) ]
 
 -- the dot that begins the constraint, or stands in the name before the end that is as long
 abbrev dotted : Text → Text → Bool
@@ -107,27 +117,32 @@ cover-longer (x ∷ c) n k h =
     rw (each-length eqb (x ∷ c) n (λ e. omega arith), begins x c, before (x ∷ c) n h)
     (order (endsWith n (x ∷ c)) (isDot x) (isDot (getD n (length n - length (x ∷ c) - 1) 0)))
 
--- the same once both are lowered, as the code asks it
+-- the same once both are lowered, as the code asks it: first for the end, then for a dot
+abbrev ending : Text → Text → Bool
+ending c n = endsWith (lowered n) (taken Lowered c)
+
 module _ (c n : Text) where
   pub match-empty : length c ≡ 0 → true ≡ matchDnsName c n
   unfolding matchDnsName lowered
   match-empty h = cover-empty (lowered c) (lowered n) (length-map c lowerByte ∙ h)
 
   module _ (k : length c ≡ 0 → ⊥) where
-    pub match-short : {r : Bool} → length n ≤ length c → r ≡ eqList (taken Lowered c) (lowered n) → r ≡ matchDnsName c n
-    unfolding matchDnsName lowered taken
-    match-short h e = e ∙ cover-short (lowered c) (lowered n) (rw (length-map c lowerByte) k) (rw (length-map c lowerByte, length-map n lowerByte) h)
+    not-empty : length (lowered c) ≡ 0 → ⊥
+    unfolding lowered
+    not-empty = rw (length-map c lowerByte) k
 
-    match-longer : length c < length n → matchDnsName c n ≡ (dotted c n && endsWith (lowered n) (taken Lowered c))
+    match-longer : length c < length n → matchDnsName c n ≡ (dotted c n && ending c n)
     unfolding matchDnsName lowered taken lowerByte
-    match-longer h = cover-longer (lowered c) (lowered n) (rw (length-map c lowerByte) k) (rw (length-map c lowerByte, length-map n lowerByte) h) ∙ rw (length-map c lowerByte, length-map n lowerByte, List·getD-map lowerByte c 0 0, List·getD-map lowerByte n (length n - length c - 1) 0, lower-dot (getD c 0 0), lower-dot (getD n (length n - length c - 1) 0)) refl
+    match-longer h = cover-longer (lowered c) (lowered n) not-empty (rw (length-map c lowerByte, length-map n lowerByte) h) ∙ rw (length-map c lowerByte, length-map n lowerByte, List·getD-map lowerByte c 0 0, List·getD-map lowerByte n (length n - length c - 1) 0, lower-dot (getD c 0 0), lower-dot (getD n (length n - length c - 1) 0)) refl
 
-    module _ {d : Bool} (h : length c < length n) (e : d ≡ (eqb (classOf (getD c 0 0)) dot || eqb (classOf (getD n (length n - length c - 1) 0)) dot)) where
-      dots : d ≡ dotted c n
-      dots = e ∙ ap₂ _||_ (class-dot (getD c 0 0)) (class-dot (getD n (length n - length c - 1) 0))
+    module _ {e : Bool} (t : e ≡ ending c n) where
+      pub match-other : e ≡ false → false ≡ matchDnsName c n
+      unfolding matchDnsName lowered taken
+      match-other y = sym (cover-other (lowered c) (lowered n) not-empty (sym t ∙ y))
 
-      pub match-dot : {r : Bool} → d ≡ true → r ≡ endsWith (lowered n) (taken Lowered c) → r ≡ matchDnsName c n
-      match-dot y t = and-then dots y t ∙ sym (match-longer h)
+      pub match-same : e ≡ true → length n ≤ length c → true ≡ matchDnsName c n
+      unfolding matchDnsName lowered taken
+      match-same y h = sym (cover-short (lowered c) (lowered n) not-empty (rw (length-map c lowerByte, length-map n lowerByte) h) ∙ sym t ∙ y)
 
-      pub match-none : d ≡ false → false ≡ matchDnsName c n
-      match-none y = and-stop dots _ y ∙ sym (match-longer h)
+      pub match-dot : {f g : ℕ} → e ≡ true → length c < length n → f ≡ classOf (getD c 0 0) → g ≡ classOf (getD n (length n - length c - 1) 0) → (eqb f dot || eqb g dot) ≡ matchDnsName c n
+      match-dot y h u v = rw (u, v, class-dot (getD c 0 0), class-dot (getD n (length n - length c - 1) 0), match-longer h, ← t, y) (sym (and-true _))

@@ -1,8 +1,9 @@
 -- Bytes as characters: lowering and classes (document 01, "Own text rules"). Assumes nothing.
 use Prim.Native.Nat.{ℕ, _+_, _*_}
+use mathlib.Core.List.{List}
 use mathlib.Core.Bool.{Bool, _&&_, _||_}
 use lib.Dec.{leb, eqb}
-use Rattle.laws.specs.Lists.{pick}
+use Rattle.laws.specs.Lists.{pick, rows}
 
 -- A to Z
 abbrev pub isUpper : ℕ → Bool
@@ -77,3 +78,7 @@ classOf x =
 -- what the table holds for a byte: its class and its lower-case form in one number
 unfoldable pub entryOf : ℕ → ℕ
 entryOf x = classOf x * 256 + lowerByte x
+
+-- the table: what it holds for each byte in turn
+unfoldable pub wholeTable : List ℕ
+wholeTable = rows entryOf 0 256

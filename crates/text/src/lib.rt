@@ -2,9 +2,11 @@
 mod table;
 
 ghost use mathlib.Core.Path.{_≡_};
+ghost use Prim.Native.Nat.{_+_};
+ghost use mathlib.Core.Bool.{_||_};
 ghost use lib.Dec.{eqb};
 ghost use Rattle.laws.specs.Lists.{any, eqList};
-ghost use Rattle.text.specs.Bytes.{lowerByte, classOf};
+ghost use Rattle.text.specs.Bytes.{lowerByte, classOf, entryOf, wholeTable};
 ghost use Rattle.text.specs.Texts.{takenByte, taken, lowered, startsWith, endsWith, matchDnsName};
 
 // The classes of bytes that somebody asks for.
@@ -20,33 +22,45 @@ pub enum Letters {
     Lowered,
 }
 
+// What the table holds for a byte.
+fn entry_in(table: &[u16; 256], x: u8) -> u16
+    requires { ⌜ now table ≡ wholeTable ⌝ }
+    ensures { λ r. ⌜ r ≡ entryOf x ⌝ }
+{
+    table[x as usize]
+}
+
 // The lower-case form of a byte.
 pub fn lower(x: u8) -> u8
     ensures { λ r. ⌜ r ≡ lowerByte x ⌝ }
 {
-    (table::entry(x) % 256) as u8
+    let table = table::whole();
+    (entry_in(&table, x) % 256) as u8
 }
 
 // The class of a byte.
 pub fn class_of(x: u8) -> u8
     ensures { λ r. ⌜ r ≡ classOf x ⌝ }
 {
-    (table::entry(x) / 256) as u8
+    let table = table::whole();
+    (entry_in(&table, x) / 256) as u8
 }
 
-fn is_class(x: u8, class: u8) -> bool
+fn is_class_in(table: &[u16; 256], x: u8, class: u8) -> bool
+    requires { ⌜ now table ≡ wholeTable ⌝ }
     ensures { λ r. ⌜ r ≡ eqb (classOf x) class ⌝ }
 {
-    class_of(x) == class
+    entry_in(table, x) / 256 == class as u16
 }
 
 // Whether some byte of a text is of a class.
 pub fn has_class(s: &[u8], class: u8) -> bool
     ensures { λ r. ⌜ r ≡ any (λ x. eqb (classOf x) class) (now (s .entry)) ⌝ }
 {
+    let table = table::whole();
     let mut i = 0;
     while i < s.len() {
-        if is_class(s[i], class) {
+        if is_class_in(&table, s[i], class) {
             return true;
         }
         i += 1;
@@ -78,12 +92,31 @@ pub fn same(a: &[u8], b: &[u8]) -> bool
     true
 }
 
+// Whether two bytes are equal or 32 apart. Two others never become equal by lowering, so that most differences need no table.
+fn near(x: u8, y: u8) -> bool
+    ensures { λ r. ⌜ r ≡ (eqb x y || eqb (x + 32) y || eqb (y + 32) x) ⌝ }
+{
+    (x == y) | (x as u16 + 32 == y as u16) | (y as u16 + 32 == x as u16)
+}
+
+fn lowered_equal(x: u8, y: u8) -> bool
+    ensures { λ r. ⌜ r ≡ eqb (lowerByte x) (lowerByte y) ⌝ }
+{
+    if x == y {
+        return true;
+    }
+    lower(x) == lower(y)
+}
+
 fn taken_equal(letters: Letters, x: u8, y: u8) -> bool
     ensures { λ r. ⌜ r ≡ eqb (takenByte letters x) (lowerByte y) ⌝ }
 {
+    if !near(x, y) {
+        return false;
+    }
     match letters {
         Letters::AsGiven => x == lower(y),
-        Letters::Lowered => lower(x) == lower(y),
+        Letters::Lowered => lowered_equal(x, y),
     }
 }
 
@@ -127,7 +160,7 @@ pub fn ends_with(letters: Letters, s: &[u8], r: &[u8]) -> bool
     same_lowered(letters, r, &s[at..])
 }
 
-// Whether the constraint covers the name, once both are lowered. The dot is asked before the bytes are compared.
+// Whether the constraint covers the name, once both are lowered.
 pub fn match_dns_name(constraint: &[u8], name: &[u8]) -> bool
     ensures { λ r. ⌜ r ≡ matchDnsName (now (constraint .entry)) (now (name .entry)) ⌝ }
 {
@@ -135,12 +168,12 @@ pub fn match_dns_name(constraint: &[u8], name: &[u8]) -> bool
     if k == 0 {
         return true;
     }
+    if !ends_with(Letters::Lowered, name, constraint) {
+        return false;
+    }
     if name.len() <= k {
-        return same_lowered(Letters::Lowered, constraint, name);
+        return true;
     }
     let before = name.len() - k - 1;
-    if is_class(constraint[0], DOT) | is_class(name[before], DOT) {
-        return ends_with(Letters::Lowered, name, constraint);
-    }
-    false
+    (class_of(constraint[0]) == DOT) | (class_of(name[before]) == DOT)
 }

@@ -1,6 +1,6 @@
 // The table of bytes. Written by tools/byte_table.py.
 ghost use mathlib.Core.Path.{_≡_};
-ghost use Rattle.text.specs.Bytes.{entryOf};
+ghost use Rattle.text.specs.Bytes.{wholeTable};
 
 // For each byte its class, times 256, and its lower-case form.
 const TABLE: [u16; 256] = [
@@ -262,9 +262,9 @@ const TABLE: [u16; 256] = [
     2047,
 ];
 
-// What the table holds for a byte.
-pub fn entry(x: u8) -> u16
-    ensures { λ r. ⌜ r ≡ entryOf x ⌝ }
+// The whole table. A loop fetches it once.
+pub fn whole() -> [u16; 256]
+    ensures { λ r. ⌜ r ≡ wholeTable ⌝ }
 {
-    TABLE[x as usize]
+    TABLE
 }

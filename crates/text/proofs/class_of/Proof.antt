@@ -5,19 +5,24 @@ use Rattle.text.proofs.class_of.Statement.{statement}
 use Rattle.text.proofs.class_of.Tie as tie
 use Rattle.text.proofs.class_of.Reads as reads
 use Rattle.text.proofs.class_of.Lts as lts
-use Rattle.text.proofs.table.entry.Reads as entry-reads
+use Rattle.text.proofs.entry_in.Reads as entry-in-reads
+use Rattle.text.proofs.table.whole.Reads as whole-reads
 
--- src/lib.rt:18:6
-entry-requires : tie.Need-entry-requires
-entry-requires c κs = search needs
+-- src/lib.rt:45:17
+whole-requires : tie.Need-whole-requires
+whole-requires c κs = search needs
 
--- src/lib.rt:18:5
+-- src/lib.rt:46:6
+entry-in-requires : tie.Need-entry-in-requires
+entry-in-requires c κs = search needs
+
+-- src/lib.rt:46:5
 cast-result : tie.Need-cast-result
 cast-result c = search needs
 
--- src/lib.rt:15:1
+-- src/lib.rt:42:1
 returns : tie.Need-returns
-returns c = entry-class (c .before .args .x) (omega arith) (c .entry .ensures)
+returns c = entry-class _ (omega arith) (c .entry-in .ensures)
 
 pub class-of-spec : {M : Type 1} → statement M
-class-of-spec = tie.close (tie.spec entry-requires cast-result returns)
+class-of-spec = tie.close (tie.spec whole-requires entry-in-requires cast-result returns)

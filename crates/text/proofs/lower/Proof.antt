@@ -5,19 +5,24 @@ use Rattle.text.proofs.lower.Statement.{statement}
 use Rattle.text.proofs.lower.Tie as tie
 use Rattle.text.proofs.lower.Reads as reads
 use Rattle.text.proofs.lower.Lts as lts
-use Rattle.text.proofs.table.entry.Reads as entry-reads
+use Rattle.text.proofs.entry_in.Reads as entry-in-reads
+use Rattle.text.proofs.table.whole.Reads as whole-reads
 
--- src/lib.rt:11:6
-entry-requires : tie.Need-entry-requires
-entry-requires c κs = search needs
+-- src/lib.rt:37:17
+whole-requires : tie.Need-whole-requires
+whole-requires c κs = search needs
 
--- src/lib.rt:11:5
+-- src/lib.rt:38:6
+entry-in-requires : tie.Need-entry-in-requires
+entry-in-requires c κs = search needs
+
+-- src/lib.rt:38:5
 cast-result : tie.Need-cast-result
 cast-result c = search needs
 
--- src/lib.rt:8:1
+-- src/lib.rt:34:1
 returns : tie.Need-returns
-returns c = entry-lower (c .before .args .x) (omega arith) (c .entry .ensures)
+returns c = entry-lower _ (omega arith) (c .entry-in .ensures)
 
 pub lower-spec : {M : Type 1} → statement M
-lower-spec = tie.close (tie.spec entry-requires cast-result returns)
+lower-spec = tie.close (tie.spec whole-requires entry-in-requires cast-result returns)
