@@ -16,6 +16,16 @@ ROWS = [
         "uses": ["lib.Dec.{eqb}", "Rattle.text.specs.Bytes.{classOf}"],
     },
     {
+        "kind": "all",
+        "crate": "text",
+        "function": "all_names",
+        "parameters": "s",
+        "slices": ["s"],
+        "test": "is_name_in",
+        "definition": "isName",
+        "uses": ["Rattle.text.specs.Bytes.{isName}"],
+    },
+    {
         "kind": "each",
         "crate": "text",
         "function": "same",
@@ -56,18 +66,17 @@ def over_one(row, test):
     stop, go = ("taken", "left") if kind == "any" else ("left", "taken")
     steps = f"{path(4, 'loop-test .taken')} {path(1, test + ' .ensures')}"
     turn = f"{kind}-%s _ _ _ _ {steps} {path(0, 'if1 .%s')} {path(5, 'loop .inv')}"
-    answers = {
+    start = {
         "whole-requires": "search needs",
         "loop-holds": f"{kind}-start 0 _ _",
         f"shared-slice-read-{test}": "search needs",
         f"{test}-requires": f"{path(4, 'whole .ensures')}",
-        "returns": turn % ("here", stop),
-        "add-i": "search needs",
-        "loop-less": "search needs",
-        "loop-again": turn % ("next", go),
-        "returns-2": f"{kind}-none _ _ _ _ {path(0, 'loop-test .left')} {path(1, 'loop .inv')}",
     }
-    return answers, ["here", "next", "none", "start"]
+    found = {"returns": turn % ("here", stop)}
+    on = {"add-i": "search needs", "loop-less": "search needs", "loop-again": turn % ("next", go)}
+    end = {"returns-2": f"{kind}-none _ _ _ _ {path(0, 'loop-test .left')} {path(1, 'loop .inv')}"}
+    middle = {**found, **on} if kind == "any" else {**on, **found}
+    return {**start, **middle, **end}, ["here", "next", "none", "start"]
 
 
 def over_two(row, test):

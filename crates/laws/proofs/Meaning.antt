@@ -3,7 +3,7 @@ use Prim.Native.Nat.{ℕ, zero, suc, _+_, _-_, _≤_, _<_}
 use native.Mathlib.Omega.{arith}
 use native.Mathlib.Decide.{decLt}
 use mathlib.Core.Path.{_≡_, refl, sym, ap, _∙_}
-use mathlib.Core.List.{List, [], _∷_}
+use mathlib.Core.List.{List, [], _∷_, map}
 use mathlib.Core.Bool.{Bool, true, false, not, _&&_, _||_, true≢false, false≢true, or-true}
 use lib.ListN.{length, getD}
 use Rattle.laws.specs.Lists.{run, rows, any, all, each, first, least, pick, Some, Every, Least}
@@ -90,6 +90,18 @@ module _ {A : Type 0} {p q : A → Bool} (e : (x : A) → p x ≡ q x) where
   unfolding all
   all-agree [] = refl
   all-agree (x ∷ l) = rw (e x, all-agree l) refl
+
+-- a list that is changed first, one by one, is tested by a changed test
+module _ {A B : Type 0} (p : B → Bool) (f : A → B) where
+  pub any-map : (l : List A) → any p (map f l) ≡ any (λ x. p (f x)) l
+  unfolding any
+  any-map [] = refl
+  any-map (x ∷ l) = ap (λ (t : Bool). p (f x) || t) (any-map l)
+
+  pub all-map : (l : List A) → all p (map f l) ≡ all (λ x. p (f x)) l
+  unfolding all
+  all-map [] = refl
+  all-map (x ∷ l) = ap (λ (t : Bool). p (f x) && t) (all-map l)
 
 -- ---- the least number that passes
 module _ (p : ℕ → Bool) where

@@ -1,10 +1,12 @@
 -- Parts of a list: the first and the last elements, as code lends them. Assumes nothing.
-use Prim.Native.Nat.{ℕ, zero, suc, _+_, _-_, _≤_, _<_}
+use Prim.Native.Nat.{ℕ, zero, suc, _-_}
 use native.Mathlib.Omega.{arith}
-use mathlib.Core.Path.{_≡_, refl, sym, ap, _∙_}
-use mathlib.Core.List.{List, [], _∷_, _++_, map}
-use lib.ListN.{length, getD, take, drop, length-drop, length-append, take-append-drop}
-use lib.Seq.{take-all, drop-append-seam}
+use mathlib.Core.Path.{_≡_, refl, sym, ap}
+use mathlib.Core.List.{List, [], _∷_, map}
+use lib.ListN.{length, take, drop, length-drop}
+use lib.Seq.{take-all}
+use lib.Dec.{eqb, eqb·suc-zero}
+use Rattle.laws.specs.Lists.{isEmpty}
 
 -- `&l[at..]`, as the code has it
 pub rest : {A : Type 0} (at : ℕ) (l : List A) → take (length l - at) (drop at l) ≡ drop at l
@@ -23,3 +25,8 @@ module _ {A B : Type 0} (f : A → B) where
   map-take zero (x ∷ l) = refl
   map-take (suc k) [] = refl
   map-take (suc k) (x ∷ l) = ap (λ (t : List B). f x ∷ t) (map-take k l)
+
+-- a list without elements, told by its length
+pub empty-length : {A : Type 0} (l : List A) → isEmpty l ≡ eqb (length l) 0
+empty-length [] = refl
+empty-length (x ∷ l) = sym (eqb·suc-zero (length l))

@@ -4,7 +4,7 @@ use mathlib.Core.Path.{_≡_, refl, sym}
 use mathlib.Core.Bool.{Bool, true, false, _&&_, _||_, false≢true, true≢false}
 use mathlib.Core.Option.{Option, none, some}
 use lib.Dec.{eqb}
-use borrow.Author.Tests.{eq-eqb, ne-eqb}
+use borrow.Author.Tests.{eq-eqb, ne-eqb, eqb-true, eqb-false}
 use Rattle.laws.specs.Lists.{pick, unlessZero, given}
 
 -- r answers p and s answers q: what `p && q` and `p || q` answer
@@ -45,6 +45,13 @@ or-left false q h = refl
 pub or-right : (p q : Bool) → (p || q) ≡ false → q ≡ false
 or-right true q h = absurd (true≢false h)
 or-right false q h = h
+
+-- equality of numbers is asked either way round
+pub eqb-sym : (a b : ℕ) → eqb a b ≡ eqb b a
+eqb-sym a b = go (eqb a b) refl where
+  go : (t : Bool) → eqb a b ≡ t → t ≡ eqb b a
+  go true h = sym (eq-eqb b a (sym (eqb-true a b h)))
+  go false h = sym (ne-eqb b a (λ e. eqb-false a b h (sym e)))
 
 -- what may be absent: k is the code c as it was read
 module _ {A : Type 0} (d : Bool) (f : A → Bool) (x : A) (c : ℕ) {k : ℕ} (e : k ≡ c) where

@@ -6,15 +6,16 @@ use mathlib.Core.Path.{_≡_, refl, sym, ap, ap₂, _∙_}
 use mathlib.Core.List.{List, [], _∷_, _++_, map}
 use mathlib.Core.Bool.{Bool, true, false, _&&_, _||_, and-true}
 use lib.Dec.{leb, eqb}
-use lib.ListN.{length, getD, drop, take, length-drop, length-map, List·getD-map}
+use lib.ListN.{length, getD, drop, take, drop-of-length-le, length-map, List·getD-map}
 use lib.Seq.{drop-cons}
-use borrow.Author.Tests.{eq-eqb, ne-eqb, eqb-true, eqb-false, le-leb, lt-leb}
+use borrow.Author.Tests.{le-leb, lt-leb}
 use Rattle.laws.specs.Lists.{each, eqList, any, isEmpty}
 use Rattle.laws.proofs.Equal.{each-map, each-length}
-use Rattle.laws.proofs.Parts.{rest, map-drop}
+use Rattle.laws.proofs.Parts.{rest, map-drop, map-take}
+use Rattle.laws.proofs.Tests.{eqb-sym}
 use Rattle.text.specs.Bytes.{isUpper, isDot, dot, lowerByte, classOf}
 use Rattle.text.specs.Texts.{Text, quoted, lowered, takenByte, taken, startsWith, endsWith, covers, matchDnsName}
-use Rattle.text.proofs.Chars.{class-dot, lower-dot, far-apart}
+use Rattle.text.proofs.Chars.{class-dot, lower-dot, lower-star, far-apart}
 use Rattle.text.specs.declared.Letters.{Letters}
 use Rattle.text.specs.declared.Letters.the-variants.{AsGiven, Lowered}
 
@@ -31,9 +32,36 @@ module _ (letters : Letters) (x y : ℕ) where
   pub both-lowered : letters ≡ Lowered → {r : Bool} → r ≡ eqb (lowerByte x) (lowerByte y) → r ≡ eqb (takenByte letters x) (lowerByte y)
   both-lowered e t = t ∙ rw e refl
 
+-- a character that lowering keeps, seen from the pattern's side
+taken-is : (letters : Letters) (k : ℕ) → ((x : ℕ) → eqb (lowerByte x) k ≡ eqb x k) → (x : ℕ) → eqb k (takenByte letters x) ≡ eqb k x
+taken-is AsGiven k e x = refl
+taken-is Lowered k e x = eqb-sym k (lowerByte x) ∙ e x ∙ eqb-sym x k
+
 pub taken-each : (letters : Letters) (p n : Text) → eqList (taken letters p) (lowered n) ≡ each (λ x y. eqb (takenByte letters x) (lowerByte y)) p n
 unfolding taken lowered
 taken-each letters p n = each-map eqb (takenByte letters) lowerByte p n
+
+-- ---- lowering keeps the length and goes with parts
+pub lowered-length : (s : Text) → length (lowered s) ≡ length s
+unfolding lowered
+lowered-length s = length-map s lowerByte
+
+pub taken-length : (letters : Letters) (s : Text) → length (taken letters s) ≡ length s
+unfolding taken
+taken-length letters s = length-map s (takenByte letters)
+
+pub lowered-take : (k : ℕ) (s : Text) → lowered (take k s) ≡ take k (lowered s)
+unfolding lowered
+lowered-take k s = sym (map-take lowerByte k s)
+
+pub taken-drop : (letters : Letters) (k : ℕ) (s : Text) → taken letters (drop k s) ≡ drop k (taken letters s)
+unfolding taken
+taken-drop letters k s = sym (map-drop (takenByte letters) k s)
+
+-- a byte of a lowered text
+pub lowered-at : (s : Text) (k : ℕ) → getD (lowered s) k 0 ≡ lowerByte (getD s k 0)
+unfolding lowered lowerByte
+lowered-at s k = List·getD-map lowerByte s k 0
 
 -- ---- beginnings
 module _ (s r : Text) where
@@ -45,11 +73,18 @@ module _ (s r : Text) where
   unfolding startsWith
   start-same h e = e ∙ rw (le-leb (length r) (length s) h) refl
 
+-- a text begins with `*.` whether its letters are lowered or not
+pub starts-taken : (letters : Letters) (s : Text) → startsWith (taken letters s) (quoted "*.") ≡ startsWith s (quoted "*.")
+unfolding startsWith taken each
+starts-taken letters [] = refl
+starts-taken letters (x ∷ []) = refl
+starts-taken letters (x ∷ y ∷ s) = rw (taken-length letters s, taken-is letters 42 lower-star x, taken-is letters 46 lower-dot y) refl
+
 -- ---- ends, of texts whose bytes are changed one by one
 module _ (letters : Letters) (s r : Text) where
   ends-opened : endsWith (lowered s) (taken letters r) ≡ (leb (length r) (length s) && eqList (taken letters r) (lowered (drop (length s - length r) s)))
   unfolding endsWith lowered taken
-  ends-opened = rw (length-map s lowerByte, length-map r (takenByte letters), map-drop lowerByte (length s - length r) s) refl
+  ends-opened = rw (lowered-length s, taken-length letters r, map-drop lowerByte (length s - length r) s) refl
 
   pub end-short : length s < length r → false ≡ endsWith (lowered s) (taken letters r)
   end-short h = rw (ends-opened, lt-leb (length r) (length s) h) refl
@@ -57,13 +92,16 @@ module _ (letters : Letters) (s r : Text) where
   pub end-same : {t : Bool} → length r ≤ length s → t ≡ eqList (taken letters r) (lowered (take (length s - (length s - length r)) (drop (length s - length r) s))) → t ≡ endsWith (lowered s) (taken letters r)
   end-same h e = e ∙ rw (ends-opened, le-leb (length r) (length s) h, rest (length s - length r) s) refl
 
--- ---- covering, told by lengths, one dot and one comparison
-eqb-sym : (a b : ℕ) → eqb a b ≡ eqb b a
-eqb-sym a b = go (eqb a b) refl where
-  go : (t : Bool) → eqb a b ≡ t → t ≡ eqb b a
-  go true h = sym (eq-eqb b a (sym (eqb-true a b h)))
-  go false h = sym (ne-eqb b a (λ e. eqb-false a b h (sym e)))
+-- an end that is one dot
+pub no-dot : (s : Text) → length s ≡ 0 → endsWith s (quoted ".") ≡ false
+unfolding endsWith
+no-dot s h = rw h refl
 
+pub last-dot : (s : Text) → (length s ≡ 0 → ⊥) → endsWith s (quoted ".") ≡ isDot (getD s (length s - 1) 0)
+unfolding endsWith each
+last-dot s h = rw (le-leb 1 (length s) (omega arith), drop-cons s (length s - 1) 0 (omega arith), drop-of-length-le s {i = suc (length s - 1)} (omega arith), and-true (eqb 46 (getD s (length s - 1) 0))) (eqb-sym 46 (getD s (length s - 1) 0))
+
+-- ---- covering, told by lengths, one dot and one comparison
 cover-empty : (c n : Text) → length c ≡ 0 → true ≡ covers c n
 unfolding covers
 cover-empty [] n h = refl

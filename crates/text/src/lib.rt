@@ -5,8 +5,8 @@ ghost use mathlib.Core.Path.{_≡_};
 ghost use Prim.Native.Nat.{_+_};
 ghost use mathlib.Core.Bool.{_||_};
 ghost use lib.Dec.{eqb};
-ghost use Rattle.laws.specs.Lists.{any, eqList};
-ghost use Rattle.text.specs.Bytes.{lowerByte, classOf, entryOf, wholeTable};
+ghost use Rattle.laws.specs.Lists.{any, all, eqList};
+ghost use Rattle.text.specs.Bytes.{isHigh, isName, lowerByte, classOf, entryOf, wholeTable};
 ghost use Rattle.text.specs.Texts.{takenByte, taken, lowered, startsWith, endsWith, matchDnsName};
 
 // The classes of bytes that somebody asks for.
@@ -66,6 +66,37 @@ pub fn has_class(s: &[u8], class: u8) -> bool
         i += 1;
     }
     false
+}
+
+// Whether some byte is no ASCII character.
+pub fn has_high(s: &[u8]) -> bool
+    ensures { λ r. ⌜ r ≡ any isHigh (now (s .entry)) ⌝ }
+{
+    has_class(s, HIGH)
+}
+
+fn is_name_in(table: &[u16; 256], x: u8) -> bool
+    requires { ⌜ now table ≡ wholeTable ⌝ }
+    ensures { λ r. ⌜ r ≡ isName x ⌝ }
+{
+    let class = entry_in(table, x) / 256;
+    (LETTER as u16 <= class) & (class <= DOT as u16)
+}
+
+// Whether each byte is one of those that a host name is made of.
+pub fn all_names(s: &[u8]) -> bool
+    ensures { λ r. ⌜ r ≡ all isName (now (s .entry)) ⌝ }
+{
+    let table = table::whole();
+    let mut i = 0;
+    while i < s.len() {
+        if is_name_in(&table, s[i]) {
+            i += 1;
+        } else {
+            return false;
+        }
+    }
+    true
 }
 
 fn equal_bytes(x: u8, y: u8) -> bool
