@@ -26,6 +26,7 @@ ENTRIES = [256 * class_of(byte) + lower(byte) for byte in range(256)]
 
 SOURCE = """// The table of bytes. Written by tools/byte_table.py.
 ghost use mathlib.Core.Path.{_≡_};
+ghost use lib.ListN.{getD};
 ghost use Rattle.text.specs.Bytes.{wholeTable};
 
 // For each byte its class, times 256, and its lower-case form.
@@ -38,6 +39,13 @@ pub fn whole() -> [u16; 256]
     ensures { λ r. ⌜ r ≡ wholeTable ⌝ }
 {
     TABLE
+}
+
+// What a table holds for a byte.
+pub fn entry_in(table: &[u16; 256], x: u8) -> u16
+    ensures { λ r. ⌜ r ≡ getD (now (table .entry)) x 0 ⌝ }
+{
+    table[x as usize]
 }
 """
 

@@ -31,7 +31,7 @@ agree f g y above x = elim (decLt x 128) [ yes h ↦ beq-true _ _ (tested (λ x.
 
 -- ---- the table
 -- the table holds the entry of each byte at that byte
-pub entry-at : {t : List ℕ} (x : ℕ) → x < 256 → t ≡ wholeTable → getD t x 0 ≡ entryOf x
+entry-at : {t : List ℕ} (x : ℕ) → x < 256 → t ≡ wholeTable → getD t x 0 ≡ entryOf x
 unfolding wholeTable
 entry-at x h e = rw (e, rows-at entryOf 0 0 256 x (omega arith), zero-add x) refl
 
@@ -50,15 +50,18 @@ lower-below x h = go (isUpper x) where
 lower-fits : (x : ℕ) → x < 256 → lowerByte x < 256
 lower-fits x h = elim (decLt 90 x) [ yes l ↦ rw (lower-above x l) h | no n ↦ lower-below x (omega arith) ]
 
--- an entry taken apart
-module _ {r : ℕ} (x : ℕ) (h : x < 256) (e : r ≡ entryOf x) where
+-- an entry taken apart: t is the table, r what was read there
+module _ (x : ℕ) (h : x < 256) (t : List ℕ) (w : t ≡ wholeTable) {r : ℕ} (e : r ≡ getD t x 0) where
+  entry-is : r ≡ entryOf x
+  entry-is = e ∙ entry-at x h w
+
   pub entry-lower : r % 256 ≡ lowerByte x
   unfolding entryOf
-  entry-lower = let l = lower-fits x h in omega arith
+  entry-lower = let q = entry-is in let l = lower-fits x h in omega arith
 
   pub entry-class : r / 256 ≡ classOf x
   unfolding entryOf
-  entry-class = let l = lower-fits x h in omega arith
+  entry-class = let q = entry-is in let l = lower-fits x h in omega arith
 
 -- ---- what a class says of a byte
 class-above : (x : ℕ) → 128 ≤ x → classOf x ≡ high

@@ -1,12 +1,12 @@
 // Bytes as text. Nothing is copied: a text is a part of the bytes that somebody lends.
-mod table;
+pub mod table;
 
 ghost use mathlib.Core.Path.{_≡_};
 ghost use Prim.Native.Nat.{_+_};
 ghost use mathlib.Core.Bool.{_||_};
 ghost use lib.Dec.{eqb};
 ghost use Rattle.laws.specs.Lists.{any, all, eqList};
-ghost use Rattle.text.specs.Bytes.{isHigh, isName, lowerByte, classOf, entryOf, wholeTable};
+ghost use Rattle.text.specs.Bytes.{isHigh, isName, lowerByte, classOf, wholeTable};
 ghost use Rattle.text.specs.Texts.{takenByte, taken, lowered, startsWith, endsWith, matchDnsName};
 
 // The classes of bytes that somebody asks for.
@@ -22,20 +22,12 @@ pub enum Letters {
     Lowered,
 }
 
-// What the table holds for a byte.
-fn entry_in(table: &[u16; 256], x: u8) -> u16
-    requires { ⌜ now table ≡ wholeTable ⌝ }
-    ensures { λ r. ⌜ r ≡ entryOf x ⌝ }
-{
-    table[x as usize]
-}
-
 // The lower-case form of a byte.
 pub fn lower(x: u8) -> u8
     ensures { λ r. ⌜ r ≡ lowerByte x ⌝ }
 {
     let table = table::whole();
-    (entry_in(&table, x) % 256) as u8
+    (table::entry_in(&table, x) % 256) as u8
 }
 
 // The class of a byte.
@@ -43,14 +35,14 @@ pub fn class_of(x: u8) -> u8
     ensures { λ r. ⌜ r ≡ classOf x ⌝ }
 {
     let table = table::whole();
-    (entry_in(&table, x) / 256) as u8
+    (table::entry_in(&table, x) / 256) as u8
 }
 
 fn is_class_in(table: &[u16; 256], x: u8, class: u8) -> bool
     requires { ⌜ now table ≡ wholeTable ⌝ }
     ensures { λ r. ⌜ r ≡ eqb (classOf x) class ⌝ }
 {
-    entry_in(table, x) / 256 == class as u16
+    table::entry_in(table, x) / 256 == class as u16
 }
 
 // Whether some byte of a text is of a class.
@@ -79,7 +71,7 @@ fn is_name_in(table: &[u16; 256], x: u8) -> bool
     requires { ⌜ now table ≡ wholeTable ⌝ }
     ensures { λ r. ⌜ r ≡ isName x ⌝ }
 {
-    let class = entry_in(table, x) / 256;
+    let class = table::entry_in(table, x) / 256;
     (LETTER as u16 <= class) & (class <= DOT as u16)
 }
 

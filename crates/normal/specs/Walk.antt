@@ -1,0 +1,34 @@
+-- How the code walks through a normal form, byte by byte. Only private contracts cite this; that it is the normal form is proved in proofs/Forms.antt. Assumes nothing.
+use Prim.Native.Nat.{ℕ, _≤_, _<_}
+use mathlib.Core.Path.{_≡_}
+use mathlib.Core.List.{[], _∷_}
+use mathlib.Core.Bool.{Bool, true, false}
+use lib.ListN.{length, drop, getD}
+use Rattle.laws.specs.Lists.{pick}
+use Rattle.text.specs.Bytes.{isSpace, lowerByte}
+use Rattle.text.specs.Texts.{Text}
+use Rattle.normal.specs.Normal.{dropFront}
+use Rattle.normal.specs.declared.Step.{Step}
+
+-- what is left of a normal form; a space that was passed is owed until a byte follows it
+unfoldable pub form : Bool → Text → Text
+form owed [] = []
+form owed (x ∷ s) = pick (isSpace x) (form true s) (pick owed (32 ∷ lowerByte x ∷ form false s) (lowerByte x ∷ form false s))
+
+-- what a step gives: the end, or a byte and the rest
+unfoldable pub stepped : Bool → ℕ → Text → Text
+stepped true x rest = []
+stepped false x rest = x ∷ rest
+
+-- k is the first place from i on without a space, or the end
+pub record PastSpaces (s : Text) (i k : ℕ) : Type 0 where
+  pub from : i ≤ k
+  pub within : k ≤ length s
+  pub spaces : dropFront (drop i s) ≡ drop k s
+  pub stops : k < length s → getD s k 0 ≡ 32 → ⊥
+
+-- r is one step through the normal form of s from i on
+pub record Advanced (s : Text) (i : ℕ) (r : Step) : Type 0 where
+  pub gives : form false (drop i s) ≡ stepped (r .end) (r .byte) (form false (drop (r .at) s))
+  pub within : r .at ≤ length s
+  pub further : r .end ≡ false → i < r .at
