@@ -150,9 +150,10 @@ module _ (s : Text) (i : ℕ) (h : i < length s) where
 
     pub step-space : Advanced s i (record { end = leb (length s) k; byte = 32; at = k })
     unfolding stepped
-    step-space = elim (decLt k (length s))
-        [ yes l ↦ record { gives = rw (lt-leb (length s) k l) (space-more l); within = p .within; further = λ z. later l }
-        | no n ↦ let l : length s ≤ k = omega arith in record { gives = rw (le-leb (length s) k l) (space-end l); within = p .within; further = λ z. absurd (true≢false (sym (le-leb (length s) k l) ∙ z)) } ]
+    step-space = elim (decLt k (length s)) [
+      | yes l ↦ record { gives = rw (lt-leb (length s) k l) (space-more l); within = p .within; further = λ z. later l }
+      | no n ↦ let l : length s ≤ k = omega arith in record { gives = rw (le-leb (length s) k l) (space-end l); within = p .within; further = λ z. absurd (true≢false (sym (le-leb (length s) k l) ∙ z)) }
+    ]
 
 -- ---- two normal forms in step
 module _ (a b : Text) where

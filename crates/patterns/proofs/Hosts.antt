@@ -88,9 +88,10 @@ module _ (s : Text) (h : length s ≡ 0 → ⊥) {k : ℕ} (e : k ≡ classOf (g
 
 -- lowering makes no dot and takes none away
 lowered-dot : (s : Text) → endsWith (lowered s) (quoted ".") ≡ endsWith s (quoted ".")
-lowered-dot s = elim (decLt 0 (length s))
-    [ yes l ↦ let h : length s ≡ 0 → ⊥ = (λ e. omega arith) in last-dot (lowered s) (rw (lowered-length s) h) ∙ rw (lowered-length s, lowered-at s (length s - 1)) (lower-dot (getD s (length s - 1) 0)) ∙ sym (last-dot s h)
-    | no n ↦ let h : length s ≡ 0 = omega arith in no-dot (lowered s) (lowered-length s ∙ h) ∙ sym (no-dot s h) ]
+lowered-dot s = elim (decLt 0 (length s)) [
+  | yes l ↦ let h : length s ≡ 0 → ⊥ = (λ e. omega arith) in last-dot (lowered s) (rw (lowered-length s) h) ∙ rw (lowered-length s, lowered-at s (length s - 1)) (lower-dot (getD s (length s - 1) 0)) ∙ sym (last-dot s h)
+  | no n ↦ let h : length s ≡ 0 = omega arith in no-dot (lowered s) (lowered-length s ∙ h) ∙ sym (no-dot s h)
+]
 
 -- the part that the code hands back is the clean name once it is lowered
 pub lowered-clean : (s : Text) → lowered (finalDotOff s) ≡ cleanName s

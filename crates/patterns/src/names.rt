@@ -2,7 +2,6 @@
 ghost use mathlib.Core.Path.{_≡_};
 ghost use Rattle.text.specs.Texts.{taken, lowered};
 ghost use Rattle.patterns.specs.Patterns.{oneLabel, matchName, finalDotOff, permitName, hostText, checkValidPattern, validNameConstraint};
-
 use text::Letters;
 
 // Whether just one label stands in the lowered name before the tail.

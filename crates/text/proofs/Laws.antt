@@ -121,9 +121,10 @@ cover-other (x ∷ c) n k h = rw h refl
 cover-short : (c n : Text) → (length c ≡ 0 → ⊥) → length n ≤ length c → covers c n ≡ endsWith n c
 unfolding covers endsWith
 cover-short [] n k h = absurd (k refl)
-cover-short (x ∷ c) n k h = elim (decLt (length n) (length (x ∷ c)))
-    [ yes l ↦ rw (lt-leb (length (x ∷ c)) (length n) l) refl
-    | no m ↦ let z : length n - length (x ∷ c) ≡ 0 = omega arith in rw (le-leb (length (x ∷ c)) (length n) (omega arith), z) (absorb (eqList (x ∷ c) n) _ _) ]
+cover-short (x ∷ c) n k h = elim (decLt (length n) (length (x ∷ c))) [
+  | yes l ↦ rw (lt-leb (length (x ∷ c)) (length n) l) refl
+  | no m ↦ let z : length n - length (x ∷ c) ≡ 0 = omega arith in rw (le-leb (length (x ∷ c)) (length n) (omega arith), z) (absorb (eqList (x ∷ c) n) _ _)
+]
 
 -- the dot that begins the constraint, or stands in the name before the end that is as long
 abbrev dotted : Text → Text → Bool

@@ -11,9 +11,13 @@ ghost use Rattle.text.specs.Texts.{takenByte, taken, lowered, startsWith
 
 // The classes of bytes that somebody asks for.
 pub const LETTER: u8 = 1;
+
 pub const DOT: u8 = 4;
+
 pub const STAR: u8 = 5;
+
 pub const SPACE: u8 = 6;
+
 pub const HIGH: u8 = 7;
 
 // How a pattern's letters are taken: as they stand, or lowered.

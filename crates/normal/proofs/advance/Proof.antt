@@ -4,44 +4,31 @@ use Rattle.normal.proofs.Forms.{step-end, step-byte, step-space, space-
 use borrow.Author.Needs.{needs}
 use Rattle.normal.proofs.advance.Statement.{statement}
 use Rattle.normal.proofs.advance.Tie as tie
-use Rattle.normal.proofs.advance.Reads as reads
-use Rattle.normal.proofs.advance.Lts as lts
-use Rattle.normal.proofs.past_spaces.Reads as past-spaces-reads
-use Rattle.text.proofs.table.entry_in.Reads as entry-in-reads
 
--- src/lib.rt:45:9
 returns : tie.Need-returns
 returns c = step-end _ _ (c .before .before .pre .1) (c .if1 .taken)
 
--- src/lib.rt:51:46
 shared-slice-read-entry-in : tie.Need-shared-slice-read-entry-in
 shared-slice-read-entry-in c = search needs
 
--- src/lib.rt:51:9
 entry-in-requires : tie.Need-entry-in-requires
 entry-in-requires c κs = search needs
 
--- src/lib.rt:52:23
 cast-if2 : tie.Need-cast-if2
 cast-if2 c = search needs
 
--- src/lib.rt:55:19
 cast-t13 : tie.Need-cast-t13
 cast-t13 c = search needs
 
--- src/lib.rt:56:17
 add-t14 : tie.Need-add-t14
 add-t14 c = search needs
 
--- src/lib.rt:53:9
 returns-2 : tie.Need-returns-2
 returns-2 c = step-byte _ _ (c .before .before .before .if1 .left) (entry-class _ (omega (arith, (c .before .before .shared-slice-known2 .given (c .before .before .before .before .before .args .i)))) _ (c .before .before .before .before .before .pre .0) (c .before .entry-in .ensures)) (c .if2 .taken) (entry-lower _ (omega (arith, (c .before .before .shared-slice-known2 .given (c .before .before .before .before .before .args .i)))) _ (c .before .before .before .before .before .pre .0) (c .before .entry-in .ensures))
 
--- src/lib.rt:59:9
 past-spaces-requires : tie.Need-past-spaces-requires
 past-spaces-requires c κs = search needs
 
--- src/lib.rt:40:1
 returns-3 : tie.Need-returns-3
 returns-3 c = step-space _ _ (c .before .before .before .before .if1 .left) _ (space-is _ (entry-class _ (omega (arith, (c .before .before .before .shared-slice-known2 .given (c .before .before .before .before .before .before .args .i)))) _ (c .before .before .before .before .before .before .pre .0) (c .before .before .entry-in .ensures)) (c .before .if2 .left)) (c .past-spaces .ensures)
 

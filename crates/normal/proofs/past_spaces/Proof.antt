@@ -7,9 +7,6 @@ use Rattle.normal.specs.Normal.{dropFront}
 use Rattle.normal.proofs.Forms.{front-space, stop-here, stop-end}
 use Rattle.normal.proofs.past_spaces.Statement.{statement}
 use Rattle.normal.proofs.past_spaces.Tie as tie
-use Rattle.normal.proofs.past_spaces.Reads as reads
-use Rattle.normal.proofs.past_spaces.Lts as lts
-use Rattle.normal.proofs.is_space.Reads as is-space-reads
 
 abbrev Inv-loop : tie.InvT-loop
 Inv-loop table s i k₀ k = (i ≤ k) × (k ≤ length s) × (dropFront (drop i s) ≡ dropFront (drop k s))
@@ -17,35 +14,27 @@ Inv-loop table s i k₀ k = (i ≤ k) × (k ≤ length s) × (dropFront (drop i 
 abbrev μ-loop : tie.MeasureT-loop
 μ-loop table s i k₀ k = length s - k
 
--- src/lib.rt:29:5
 loop-holds : tie.Need-loop-holds Inv-loop μ-loop
 loop-holds c = (omega arith, omega arith, refl)
 
--- src/lib.rt:30:28
 shared-slice-read-is-space : tie.Need-shared-slice-read-is-space Inv-loop μ-loop
 shared-slice-read-is-space c = search needs
 
--- src/lib.rt:30:12
 is-space-requires : tie.Need-is-space-requires Inv-loop μ-loop
 is-space-requires c κs = (c .before .before .before .before .pre .0)
 
--- src/lib.rt:31:13
 add-k : tie.Need-add-k Inv-loop μ-loop
 add-k c = search needs
 
--- src/lib.rt:29:5
 loop-less : tie.Need-loop-less Inv-loop μ-loop
 loop-less c = search needs
 
--- src/lib.rt:29:5
 loop-again : tie.Need-loop-again Inv-loop μ-loop
 loop-again c = (omega arith, omega arith, (c .before .before .before .before .loop .inv .2) ∙ front-space _ _ (c .before .before .before .loop-test .taken) (sym (c .before .is-space .ensures) ∙ (c .if1 .taken)))
 
--- src/lib.rt:33:13
 returns : tie.Need-returns Inv-loop μ-loop
 returns c = stop-here _ _ _ (c .before .before .before .before .loop .inv .0) (c .before .before .before .before .loop .inv .2) (c .before .before .before .loop-test .taken) (c .before .is-space .ensures) (c .if1 .left)
 
--- src/lib.rt:24:1
 returns-2 : tie.Need-returns-2 Inv-loop μ-loop
 returns-2 c = stop-end _ _ _ (c .before .loop .inv .0) (c .before .loop .inv .2) (c .before .loop .inv .1) (c .loop-test .left)
 

@@ -10,12 +10,6 @@ use Rattle.normal.specs.Walk.{form}
 use Rattle.normal.proofs.Forms.{same-texts, same-start, both-end, one-ends, bytes-differ, bytes-agree}
 use Rattle.normal.proofs.same_normal.Statement.{statement}
 use Rattle.normal.proofs.same_normal.Tie as tie
-use Rattle.normal.proofs.same_normal.Reads as reads
-use Rattle.normal.proofs.same_normal.Lts as lts
-use Rattle.normal.proofs.advance.Reads as advance-reads
-use Rattle.normal.proofs.past_spaces.Reads as past-spaces-reads
-use Rattle.text.proofs.same.Reads as same-reads
-use Rattle.text.proofs.table.whole.Reads as whole-reads
 
 abbrev Inv-loop : tie.InvT-loop
 Inv-loop a b table i₀ j₀ i j = (i ≤ length a) × (j ≤ length b) × (sameNormal a b ≡ eqList (form false (drop i a)) (form false (drop j b)))
@@ -23,55 +17,42 @@ Inv-loop a b table i₀ j₀ i j = (i ≤ length a) × (j ≤ length b) × (same
 abbrev μ-loop : tie.MeasureT-loop
 μ-loop a b table i₀ j₀ i j = length a - i
 
--- src/lib.rt:71:8
 same-requires : tie.Need-same-requires Inv-loop μ-loop
 same-requires c κs = search needs
 
--- src/lib.rt:72:9
 returns : tie.Need-returns Inv-loop μ-loop
 returns c = same-texts _ _ (c .before .same .ensures) (c .if1 .taken)
 
--- src/lib.rt:74:17
 whole-requires : tie.Need-whole-requires Inv-loop μ-loop
 whole-requires c κs = search needs
 
--- src/lib.rt:75:9
 past-spaces-requires : tie.Need-past-spaces-requires Inv-loop μ-loop
 past-spaces-requires c κs = ((c .before .whole .ensures), omega arith)
 
--- src/lib.rt:76:9
 past-spaces-requires-2 : tie.Need-past-spaces-requires-2 Inv-loop μ-loop
 past-spaces-requires-2 c κs = ((c .before .before .before .whole .ensures), omega arith)
 
--- src/lib.rt:77:5
 loop-holds : tie.Need-loop-holds Inv-loop μ-loop
 loop-holds c = ((c .before .before .past-spaces .ensures .within), (c .past-spaces2 .ensures .within), same-start _ _ (c .before .before .past-spaces .ensures) (c .past-spaces2 .ensures))
 
--- src/lib.rt:78:13
 advance-requires : tie.Need-advance-requires Inv-loop μ-loop
 advance-requires c κs = ((c .before .before .before .before .before .before .whole .ensures), (c .before .loop .inv .0))
 
--- src/lib.rt:79:13
 advance-requires-2 : tie.Need-advance-requires-2 Inv-loop μ-loop
 advance-requires-2 c κs = ((c .before .before .before .before .before .before .before .before .whole .ensures), (c .before .before .before .loop .inv .1))
 
--- src/lib.rt:81:13
 returns-2 : tie.Need-returns-2 Inv-loop μ-loop
 returns-2 c = both-end _ _ _ _ (c .before .before .before .advance .ensures .gives) (c .before .advance2 .ensures .gives) (c .before .before .before .before .before .loop .inv .2) (c .if2 .taken)
 
--- src/lib.rt:84:13
 returns-3 : tie.Need-returns-3 Inv-loop μ-loop
 returns-3 c = one-ends _ _ _ _ (c .before .before .before .before .advance .ensures .gives) (c .before .before .advance2 .ensures .gives) (c .before .before .before .before .before .before .loop .inv .2) (c .before .if2 .left) (c .if3 .taken)
 
--- src/lib.rt:87:13
 returns-4 : tie.Need-returns-4 Inv-loop μ-loop
 returns-4 c = bytes-differ _ _ _ _ (c .before .before .before .before .before .before .before .advance .ensures .gives) (c .before .before .before .before .before .advance2 .ensures .gives) (c .before .before .before .before .before .before .before .before .before .loop .inv .2) (c .before .before .before .before .if2 .left) (c .before .before .before .if3 .left) (c .if4 .taken)
 
--- src/lib.rt:77:5
 loop-less : tie.Need-loop-less Inv-loop μ-loop
 loop-less c = omega (arith, (c .before .before .before .before .before .before .before .advance .ensures .further (c .before .before .before .before .if2 .left)), (c .before .before .before .before .before .before .before .advance .ensures .within))
 
--- src/lib.rt:77:5
 loop-again : tie.Need-loop-again Inv-loop μ-loop
 loop-again c = ((c .before .before .before .before .before .before .before .advance .ensures .within), (c .before .before .before .before .before .advance2 .ensures .within), bytes-agree _ _ _ _ (c .before .before .before .before .before .before .before .advance .ensures .gives) (c .before .before .before .before .before .advance2 .ensures .gives) (c .before .before .before .before .before .before .before .before .before .loop .inv .2) (c .before .before .before .before .if2 .left) (c .before .before .before .if3 .left) (c .if4 .left))
 

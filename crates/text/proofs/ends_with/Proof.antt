@@ -2,35 +2,25 @@ use Rattle.text.proofs.Laws.{end-short, end-same}
 use borrow.Author.Needs.{needs}
 use Rattle.text.proofs.ends_with.Statement.{statement}
 use Rattle.text.proofs.ends_with.Tie as tie
-use Rattle.text.proofs.ends_with.Reads as reads
-use Rattle.text.proofs.ends_with.Lts as lts
-use Rattle.text.proofs.same_lowered.Reads as same-lowered-reads
 
--- src/lib.rt:124:9
 returns : tie.Need-returns
 returns c = end-short _ _ _ (c .if1 .taken)
 
--- src/lib.rt:126:14
 sub-at : tie.Need-sub-at
 sub-at c = search needs
 
--- src/lib.rt:127:30
 sub-same-lowered : tie.Need-sub-same-lowered
 sub-same-lowered c = search needs
 
--- src/lib.rt:127:30
 part-same-lowered-start : tie.Need-part-same-lowered-start
 part-same-lowered-start c = search needs
 
--- src/lib.rt:127:30
 part-same-lowered-end : tie.Need-part-same-lowered-end
 part-same-lowered-end c = search needs
 
--- src/lib.rt:127:5
 same-lowered-requires : tie.Need-same-lowered-requires
 same-lowered-requires c κs = search needs
 
--- src/lib.rt:120:1
 returns-2 : tie.Need-returns-2
 returns-2 c = let a = c .before .before .before .before .before .args in end-same (a .letters) (a .s .now) (a .r .now) (c .before .before .if1 .left) (c .same-lowered .ensures)
 

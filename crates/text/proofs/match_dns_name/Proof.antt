@@ -3,52 +3,37 @@ use Rattle.text.proofs.Laws.{match-empty, match-other, match-same, matc
 use borrow.Author.Needs.{needs}
 use Rattle.text.proofs.match_dns_name.Statement.{statement}
 use Rattle.text.proofs.match_dns_name.Tie as tie
-use Rattle.text.proofs.match_dns_name.Reads as reads
-use Rattle.text.proofs.match_dns_name.Lts as lts
-use Rattle.text.proofs.class_of.Reads as class-of-reads
-use Rattle.text.proofs.ends_with.Reads as ends-with-reads
 
--- src/lib.rt:169:9
 returns : tie.Need-returns
 returns c = match-empty _ _ (c .if1 .taken)
 
--- src/lib.rt:171:9
 ends-with-requires : tie.Need-ends-with-requires
 ends-with-requires c κs = search needs
 
--- src/lib.rt:172:9
 returns-2 : tie.Need-returns-2
 returns-2 c = match-other _ _ (c .before .before .if1 .left) (c .before .ends-with .ensures) (not-true _ (c .if2 .taken))
 
--- src/lib.rt:175:9
 returns-3 : tie.Need-returns-3
 returns-3 c = match-same _ _ (c .before .before .before .if1 .left) (c .before .before .ends-with .ensures) (not-false _ (c .before .if2 .left)) (c .if3 .taken)
 
--- src/lib.rt:177:18
 sub-before : tie.Need-sub-before
 sub-before c = search needs
 
--- src/lib.rt:177:18
 sub-before-2 : tie.Need-sub-before-2
 sub-before-2 c = search needs
 
--- src/lib.rt:178:15
 shared-slice-read-class-of : tie.Need-shared-slice-read-class-of
 shared-slice-read-class-of c = search needs
 
--- src/lib.rt:178:6
 class-of-requires : tie.Need-class-of-requires
 class-of-requires c κs = search needs
 
--- src/lib.rt:178:50
 shared-slice-read-class-of-2 : tie.Need-shared-slice-read-class-of-2
 shared-slice-read-class-of-2 c = search needs
 
--- src/lib.rt:178:41
 class-of-requires-2 : tie.Need-class-of-requires-2
 class-of-requires-2 c κs = search needs
 
--- src/lib.rt:164:1
 returns-4 : tie.Need-returns-4
 returns-4 c = match-dot _ _ (c .before .before .before .before .before .before .before .if1 .left) (c .before .before .before .before .before .before .ends-with .ensures) (not-false _ (c .before .before .before .before .before .if2 .left)) (c .before .before .before .before .if3 .left) (c .before .before .class-of .ensures) (c .class-of2 .ensures)
 

@@ -4,23 +4,16 @@ use Rattle.text.proofs.Laws.{start-short, start-same}
 use borrow.Author.Needs.{needs}
 use Rattle.text.proofs.starts_with.Statement.{statement}
 use Rattle.text.proofs.starts_with.Tie as tie
-use Rattle.text.proofs.starts_with.Reads as reads
-use Rattle.text.proofs.starts_with.Lts as lts
-use Rattle.text.proofs.same.Reads as same-reads
 
--- src/lib.rt:114:9
 returns : tie.Need-returns
 returns c = start-short _ _ (c .if1 .taken)
 
--- src/lib.rt:116:13
 slice-aggregate-same : tie.Need-slice-aggregate-same
 slice-aggregate-same c = sym (length-take-le _ _ (c .before .if1 .left))
 
--- src/lib.rt:116:5
 same-requires : tie.Need-same-requires
 same-requires c κs = search needs
 
--- src/lib.rt:109:1
 returns-2 : tie.Need-returns-2
 returns-2 c = start-same _ _ (c .before .before .if1 .left) (c .same .ensures)
 

@@ -7,9 +7,6 @@ use Rattle.patterns.specs.Address.{agreesAt, inRange}
 use Rattle.patterns.proofs.Ranges.{each-byte}
 use Rattle.patterns.proofs.address.in_range.Statement.{statement}
 use Rattle.patterns.proofs.address.in_range.Tie as tie
-use Rattle.patterns.proofs.address.in_range.Reads as reads
-use Rattle.patterns.proofs.address.in_range.Lts as lts
-use Rattle.patterns.proofs.address.masked_equal.Reads as masked-equal-reads
 
 abbrev Inv-loop : tie.InvT-loop
 Inv-loop n range address i₀ i = inRange n range address ≡ all (agreesAt n range address) (numbers i n)
@@ -17,49 +14,38 @@ Inv-loop n range address i₀ i = inRange n range address ≡ all (agreesAt n ra
 abbrev μ-loop : tie.MeasureT-loop
 μ-loop n range address i₀ i = n - i
 
--- src/address.rt:19:5
 loop-holds : tie.Need-loop-holds Inv-loop μ-loop
 loop-holds c = each-byte _ _ _ (c .before .before .pre .0) (c .before .before .pre .1)
 
--- src/address.rt:20:25
 shared-slice-read-masked-equal : tie.Need-shared-slice-read-masked-equal Inv-loop μ-loop
 shared-slice-read-masked-equal c = search needs
 
--- src/address.rt:20:41
 add-masked-equal : tie.Need-add-masked-equal Inv-loop μ-loop
 add-masked-equal c = search needs
 
--- src/address.rt:20:35
 shared-slice-read-masked-equal-2 : tie.Need-shared-slice-read-masked-equal-2 Inv-loop μ-loop
 shared-slice-read-masked-equal-2 c = search needs
 
--- src/address.rt:20:49
 shared-slice-read-masked-equal-3 : tie.Need-shared-slice-read-masked-equal-3 Inv-loop μ-loop
 shared-slice-read-masked-equal-3 c = search needs
 
--- src/address.rt:20:12
 masked-equal-requires : tie.Need-masked-equal-requires Inv-loop μ-loop
 masked-equal-requires c κs = search needs
 
--- src/address.rt:21:13
 add-i : tie.Need-add-i Inv-loop μ-loop
 add-i c = search needs
 
--- src/address.rt:19:5
 loop-less : tie.Need-loop-less Inv-loop μ-loop
 loop-less c = search needs
 
--- src/address.rt:19:5
 loop-again : tie.Need-loop-again Inv-loop μ-loop
 unfolding agreesAt
 loop-again c = all-next _ _ _ _ (c .before .before .before .before .before .loop-test .taken) (c .before .masked-equal .ensures) (c .if1 .taken) (c .before .before .before .before .before .before .loop .inv)
 
--- src/address.rt:23:13
 returns : tie.Need-returns Inv-loop μ-loop
 unfolding agreesAt
 returns c = all-here _ _ _ _ (c .before .before .before .before .before .loop-test .taken) (c .before .masked-equal .ensures) (c .if1 .left) (c .before .before .before .before .before .before .loop .inv)
 
--- src/address.rt:14:1
 returns-2 : tie.Need-returns-2 Inv-loop μ-loop
 returns-2 c = all-none _ _ _ _ (c .loop-test .left) (c .before .loop .inv)
 

@@ -2,35 +2,25 @@ use Rattle.patterns.proofs.Ranges.{neither, of-four, of-sixteen}
 use borrow.Author.Needs.{needs}
 use Rattle.patterns.proofs.address.ip_addr_in_range.Statement.{statement}
 use Rattle.patterns.proofs.address.ip_addr_in_range.Tie as tie
-use Rattle.patterns.proofs.address.ip_addr_in_range.Reads as reads
-use Rattle.patterns.proofs.address.ip_addr_in_range.Lts as lts
-use Rattle.patterns.proofs.address.in_range.Reads as in-range-reads
 
--- src/address.rt:34:23
 add-if1 : tie.Need-add-if1
 add-if1 c = search needs
 
--- src/address.rt:35:9
 returns : tie.Need-returns
 returns c = neither _ _ (λ e f. c .if1 .taken e) (λ e f. c .if1 .taken e)
 
--- src/address.rt:38:9
 in-range-requires : tie.Need-in-range-requires
 in-range-requires c κs = search needs
 
--- src/address.rt:38:9
 returns-2 : tie.Need-returns-2
 returns-2 c = of-four _ _ (c .before .if2 .taken) (c .in-range .ensures)
 
--- src/address.rt:41:9
 in-range-requires-2 : tie.Need-in-range-requires-2
 in-range-requires-2 c κs = search needs
 
--- src/address.rt:41:9
 returns-3 : tie.Need-returns-3
 returns-3 c = of-sixteen _ _ (c .before .if3 .taken) (c .in-range2 .ensures)
 
--- src/address.rt:30:1
 returns-4 : tie.Need-returns-4
 returns-4 c = neither _ _ (λ e f. c .before .if2 .left f) (λ e f. c .if3 .left f)
 

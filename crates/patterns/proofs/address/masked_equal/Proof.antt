@@ -2,10 +2,7 @@ use mathlib.Core.Path.{refl}
 use Rattle.patterns.specs.Address.{maskedEqual}
 use Rattle.patterns.proofs.address.masked_equal.Statement.{statement}
 use Rattle.patterns.proofs.address.masked_equal.Tie as tie
-use Rattle.patterns.proofs.address.masked_equal.Reads as reads
-use Rattle.patterns.proofs.address.masked_equal.Lts as lts
 
--- src/address.rt:7:1
 returns : tie.Need-returns
 unfolding maskedEqual
 returns c = refl

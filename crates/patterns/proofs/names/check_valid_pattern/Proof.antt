@@ -5,53 +5,37 @@ use Rattle.patterns.proofs.Hosts.{valid-plain, valid-star, valid-none, 
 use borrow.Author.Needs.{needs}
 use Rattle.patterns.proofs.names.check_valid_pattern.Statement.{statement}
 use Rattle.patterns.proofs.names.check_valid_pattern.Tie as tie
-use Rattle.patterns.proofs.names.check_valid_pattern.Reads as reads
-use Rattle.patterns.proofs.names.check_valid_pattern.Lts as lts
-use Rattle.patterns.proofs.names.host_text.Reads as host-text-reads
-use Rattle.text.proofs.has_class.Reads as has-class-reads
-use Rattle.text.proofs.starts_with.Reads as starts-with-reads
 
--- src/names.rt:73:36
 slice-aggregate-starts-with : tie.Need-slice-aggregate-starts-with
 slice-aggregate-starts-with c = search needs
 
--- src/names.rt:73:9
 starts-with-requires : tie.Need-starts-with-requires
 starts-with-requires c κs = search needs
 
--- src/names.rt:74:9
 host-text-requires : tie.Need-host-text-requires
 host-text-requires c κs = search needs
 
--- src/names.rt:74:9
 returns : tie.Need-returns
 returns c = valid-plain _ (c .before .before .starts-with .ensures) (not-true _ (c .before .if1 .taken)) (c .host-text .ensures)
 
--- src/names.rt:76:16
 sub-tail : tie.Need-sub-tail
 sub-tail c = two-bytes _ (sym (c .before .starts-with .ensures) ∙ not-false _ (c .if1 .left))
 
--- src/names.rt:76:16
 part-tail-start : tie.Need-part-tail-start
 part-tail-start c = two-bytes _ (sym (c .before .starts-with .ensures) ∙ not-false _ (c .if1 .left))
 
--- src/names.rt:76:16
 part-tail-end : tie.Need-part-tail-end
 part-tail-end c = search needs
 
--- src/names.rt:77:8
 host-text-requires-2 : tie.Need-host-text-requires-2
 host-text-requires-2 c κs = search needs
 
--- src/names.rt:78:9
 has-class-requires : tie.Need-has-class-requires
 has-class-requires c κs = search needs
 
--- src/names.rt:78:9
 returns-2 : tie.Need-returns-2
 returns-2 c = valid-star _ (c .before .before .before .before .before .starts-with .ensures) (not-false _ (c .before .before .before .before .if1 .left)) (c .before .before .host-text2 .ensures) (c .before .if2 .taken) (c .has-class .ensures)
 
--- src/names.rt:70:1
 returns-3 : tie.Need-returns-3
 returns-3 c = valid-none _ (c .before .before .before .before .starts-with .ensures) (not-false _ (c .before .before .before .if1 .left)) (c .before .host-text2 .ensures) (c .if2 .left)
 

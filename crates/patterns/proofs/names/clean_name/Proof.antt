@@ -5,35 +5,25 @@ use Rattle.patterns.proofs.Hosts.{clean-empty, clean-dot, clean-none}
 use borrow.Author.Needs.{needs}
 use Rattle.patterns.proofs.names.clean_name.Statement.{statement}
 use Rattle.patterns.proofs.names.clean_name.Tie as tie
-use Rattle.patterns.proofs.names.clean_name.Reads as reads
-use Rattle.patterns.proofs.names.clean_name.Lts as lts
-use Rattle.text.proofs.class_of.Reads as class-of-reads
 
--- src/names.rt:44:9
 returns : tie.Need-returns
 returns c = clean-empty _ (c .if1 .taken)
 
--- src/names.rt:46:16
 sub-last : tie.Need-sub-last
 sub-last c = search needs
 
--- src/names.rt:47:23
 shared-slice-read-class-of : tie.Need-shared-slice-read-class-of
 shared-slice-read-class-of c = search needs
 
--- src/names.rt:47:8
 class-of-requires : tie.Need-class-of-requires
 class-of-requires c κs = search needs
 
--- src/names.rt:48:9
 slice-aggregate-result : tie.Need-slice-aggregate-result
 slice-aggregate-result c = sym (length-take-le _ _ (omega arith))
 
--- src/names.rt:48:9
 returns-2 : tie.Need-returns-2
 returns-2 c = clean-dot _ (c .before .before .before .before .if1 .left) (c .before .before .class-of .ensures) (c .before .if2 .taken)
 
--- src/names.rt:39:1
 returns-3 : tie.Need-returns-3
 returns-3 c = clean-none _ (c .before .before .before .if1 .left) (c .before .class-of .ensures) (c .if2 .left)
 

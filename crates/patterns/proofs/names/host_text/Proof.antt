@@ -2,19 +2,13 @@ use Rattle.patterns.proofs.Hosts.{host-empty, host-some}
 use borrow.Author.Needs.{needs}
 use Rattle.patterns.proofs.names.host_text.Statement.{statement}
 use Rattle.patterns.proofs.names.host_text.Tie as tie
-use Rattle.patterns.proofs.names.host_text.Reads as reads
-use Rattle.patterns.proofs.names.host_text.Lts as lts
-use Rattle.text.proofs.all_names.Reads as all-names-reads
 
--- src/names.rt:64:9
 returns : tie.Need-returns
 returns c = host-empty _ (c .if1 .taken)
 
--- src/names.rt:66:5
 all-names-requires : tie.Need-all-names-requires
 all-names-requires c κs = search needs
 
--- src/names.rt:60:1
 returns-2 : tie.Need-returns-2
 returns-2 c = host-some _ (c .before .if1 .left) (c .all-names .ensures)
 

@@ -6,36 +6,25 @@ use Rattle.patterns.proofs.Hosts.{label-short, label-other, label-dots}
 use borrow.Author.Needs.{needs}
 use Rattle.patterns.proofs.names.one_label.Statement.{statement}
 use Rattle.patterns.proofs.names.one_label.Tie as tie
-use Rattle.patterns.proofs.names.one_label.Reads as reads
-use Rattle.patterns.proofs.names.one_label.Lts as lts
-use Rattle.text.proofs.ends_with.Reads as ends-with-reads
-use Rattle.text.proofs.has_class.Reads as has-class-reads
 
--- src/names.rt:13:9
 returns : tie.Need-returns
 returns c = label-short _ _ _ (c .if1 .taken)
 
--- src/names.rt:15:9
 ends-with-requires : tie.Need-ends-with-requires
 ends-with-requires c κs = search needs
 
--- src/names.rt:16:9
 returns-2 : tie.Need-returns-2
 returns-2 c = label-other _ _ _ (c .before .before .if1 .left) (c .before .ends-with .ensures) (not-true _ (c .if2 .taken))
 
--- src/names.rt:18:14
 sub-at : tie.Need-sub-at
 sub-at c = search needs
 
--- src/names.rt:19:22
 slice-aggregate-has-class : tie.Need-slice-aggregate-has-class
 slice-aggregate-has-class c = sym (length-take-le _ _ (omega arith))
 
--- src/names.rt:19:6
 has-class-requires : tie.Need-has-class-requires
 has-class-requires c κs = search needs
 
--- src/names.rt:9:1
 returns-3 : tie.Need-returns-3
 returns-3 c = label-dots _ _ _ (c .before .before .before .before .if1 .left) (c .before .before .before .ends-with .ensures) (not-false _ (c .before .before .if2 .left)) (c .has-class .ensures)
 

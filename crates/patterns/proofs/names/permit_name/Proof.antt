@@ -2,20 +2,13 @@ use Rattle.patterns.proofs.Hosts.{permitted}
 use borrow.Author.Needs.{needs}
 use Rattle.patterns.proofs.names.permit_name.Statement.{statement}
 use Rattle.patterns.proofs.names.permit_name.Tie as tie
-use Rattle.patterns.proofs.names.permit_name.Reads as reads
-use Rattle.patterns.proofs.names.permit_name.Lts as lts
-use Rattle.patterns.proofs.names.clean_name.Reads as clean-name-reads
-use Rattle.text.proofs.match_dns_name.Reads as match-dns-name-reads
 
--- src/names.rt:57:26
 clean-name-requires : tie.Need-clean-name-requires
 clean-name-requires c κs = search needs
 
--- src/names.rt:57:5
 match-dns-name-requires : tie.Need-match-dns-name-requires
 match-dns-name-requires c κs = search needs
 
--- src/names.rt:54:1
 returns : tie.Need-returns
 returns c = permitted _ _ (c .before .clean-name .ensures) (c .match-dns-name .ensures)
 

@@ -2,41 +2,28 @@ use Rattle.patterns.proofs.Hosts.{constraint-empty, constraint-dot, con
 use borrow.Author.Needs.{needs}
 use Rattle.patterns.proofs.names.valid_name_constraint.Statement.{statement}
 use Rattle.patterns.proofs.names.valid_name_constraint.Tie as tie
-use Rattle.patterns.proofs.names.valid_name_constraint.Reads as reads
-use Rattle.patterns.proofs.names.valid_name_constraint.Lts as lts
-use Rattle.patterns.proofs.names.clean_name.Reads as clean-name-reads
-use Rattle.text.proofs.class_of.Reads as class-of-reads
-use Rattle.text.proofs.has_class.Reads as has-class-reads
 
--- src/names.rt:87:9
 clean-name-requires : tie.Need-clean-name-requires
 clean-name-requires c κs = search needs
 
--- src/names.rt:90:9
 returns : tie.Need-returns
 returns c = constraint-empty _ (c .before .clean-name .ensures) (c .if1 .taken)
 
--- src/names.rt:92:28
 sub-class-of : tie.Need-sub-class-of
 sub-class-of c = search needs
 
--- src/names.rt:92:23
 shared-slice-read-class-of : tie.Need-shared-slice-read-class-of
 shared-slice-read-class-of c = search needs
 
--- src/names.rt:92:8
 class-of-requires : tie.Need-class-of-requires
 class-of-requires c κs = search needs
 
--- src/names.rt:93:9
 returns-2 : tie.Need-returns-2
 returns-2 c = constraint-dot _ (c .before .before .before .before .clean-name .ensures) (c .before .before .before .if1 .left) (c .before .class-of .ensures) (c .if2 .taken)
 
--- src/names.rt:95:6
 has-class-requires : tie.Need-has-class-requires
 has-class-requires c κs = search needs
 
--- src/names.rt:84:1
 returns-3 : tie.Need-returns-3
 returns-3 c = constraint-star _ (c .before .before .before .before .before .clean-name .ensures) (c .before .before .before .before .if1 .left) (c .before .before .class-of .ensures) (c .before .if2 .left) (c .has-class .ensures)
 

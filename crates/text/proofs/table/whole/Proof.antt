@@ -4,10 +4,7 @@ use Rattle.laws.proofs.Equal.{equal-list}
 use Rattle.text.specs.Bytes.{wholeTable, entryOf, classOf, lowerByte}
 use Rattle.text.proofs.table.whole.Statement.{statement}
 use Rattle.text.proofs.table.whole.Tie as tie
-use Rattle.text.proofs.table.whole.Reads as reads
-use Rattle.text.proofs.table.whole.Lts as lts
 
--- src/table.rt:266:1
 returns : tie.Need-returns
 unfolding each rows run wholeTable entryOf classOf lowerByte
 returns c = equal-list _ _ refl

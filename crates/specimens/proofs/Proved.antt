@@ -1,0 +1,32 @@
+-- Every specimen of the table holds. Assumes nothing.
+use native.Mathlib.Omega.{arith}
+use mathlib.Core.Path.{_≡_, refl}
+use mathlib.Core.Bool.{false}
+use lib.Dec.{eqb}
+use Rattle.laws.specs.Lists.{any, all, each, rows, run}
+use Rattle.text.specs.Bytes.{lowerByte}
+use Rattle.text.specs.Texts.{Text, quoted, lowered, startsWith, endsWith, covers}
+use Rattle.patterns.specs.Address.{maskedEqual, agreesAt, inRange, ipAddrInRange}
+use Rattle.patterns.specs.Patterns.{matchName, oneLabel, finalDotOff, cleanName}
+use Rattle.patterns.proofs.Ranges.{other-lengths}
+use Rattle.specimens.specs.Specimens.{Specimens}
+
+star-alone : (name : Text) → matchName (quoted "*.") name ≡ false
+unfolding matchName startsWith each
+star-alone name = refl
+
+pub specimens : Specimens
+unfolding matchName oneLabel startsWith endsWith covers cleanName finalDotOff lowered lowerByte ipAddrInRange inRange agreesAt maskedEqual any all each rows run
+specimens = record {
+  star-apex = refl;
+  star-label = refl;
+  star-two-labels = refl;
+  star-empty-label = refl;
+  star-alone = star-alone;
+  covers-label = refl;
+  covers-no-part = refl;
+  dot-covers-no-apex = refl;
+  one-dot-off = refl;
+  range-holds = refl;
+  range-of-eight = λ range address e f. rw (other-lengths range address 4 (λ g h. omega arith), other-lengths range address 16 (λ g h. omega arith)) refl;
+}

@@ -1,0 +1,27 @@
+-- Document 01's specimens that are proved, one line each, in its order. Dates and Chrome's cleaning of SAN names are not in it yet. Assumes nothing.
+use Prim.Native.Nat.{ℕ}
+use mathlib.Core.Path.{_≡_}
+use mathlib.Core.List.{List, [], _∷_}
+use mathlib.Core.Bool.{true, false}
+use lib.ListN.{length}
+use Rattle.text.specs.Texts.{Text, quoted, covers}
+use Rattle.patterns.specs.Address.{ipAddrInRange}
+use Rattle.patterns.specs.Patterns.{matchName, cleanName}
+
+pub record Specimens : Type 0 where
+  -- `*.a.com` matches a.com and x.a.com, not x.y.a.com, not .a.com
+  pub star-apex : matchName (quoted "*.a.com") (quoted "a.com") ≡ true
+  pub star-label : matchName (quoted "*.a.com") (quoted "x.a.com") ≡ true
+  pub star-two-labels : matchName (quoted "*.a.com") (quoted "x.y.a.com") ≡ false
+  pub star-empty-label : matchName (quoted "*.a.com") (quoted ".a.com") ≡ false
+  -- `*.` matches nothing
+  pub star-alone : (name : Text) → matchName (quoted "*.") name ≡ false
+  -- a.com covers x.a.com, not ba.com; .a.com doesn't cover a.com
+  pub covers-label : covers (quoted "a.com") (quoted "x.a.com") ≡ true
+  pub covers-no-part : covers (quoted "a.com") (quoted "ba.com") ≡ false
+  pub dot-covers-no-apex : covers (quoted ".a.com") (quoted "a.com") ≡ false
+  -- `a.com..` cleans to `a.com.`
+  pub one-dot-off : cleanName (quoted "a.com..") ≡ quoted "a.com."
+  -- 10.0.0.0/255.0.0.0 holds 10.1.2.3; an 8-byte range never holds 16 bytes
+  pub range-holds : ipAddrInRange (10 ∷ 0 ∷ 0 ∷ 0 ∷ 255 ∷ 0 ∷ 0 ∷ 0 ∷ []) (10 ∷ 1 ∷ 2 ∷ 3 ∷ []) ≡ true
+  pub range-of-eight : (range address : List ℕ) → length range ≡ 8 → length address ≡ 16 → ipAddrInRange range address ≡ false
