@@ -28,16 +28,6 @@ ROWS = [
     {
         "kind": "each",
         "crate": "text",
-        "function": "same",
-        "parameters": "a b",
-        "slices": ["a", "b"],
-        "test": "equal_bytes",
-        "definition": "eqb",
-        "uses": ["lib.Dec.{eqb}"],
-    },
-    {
-        "kind": "each",
-        "crate": "text",
         "function": "same_lowered",
         "parameters": "letters p n",
         "slices": ["p", "n"],

@@ -5,7 +5,7 @@ use native.Mathlib.Omega.{arith}
 use native.Mathlib.Decide.{decLt}
 use mathlib.Core.Path.{_≡_, refl, sym, _∙_}
 use mathlib.Core.List.{List, [], _∷_}
-use mathlib.Core.Bool.{Bool, true, false, _&&_, _||_}
+use mathlib.Core.Bool.{Bool, true, false, _&&_, _||_, and-true, and-assoc}
 use borrow.Author.Tests.{le-leb, lt-leb}
 use lib.Dec.{leb}
 use lib.ListN.{length}
@@ -77,6 +77,15 @@ module _ {A B : Type 0} (p : A → B → Bool) (g : ℕ → A) (h : ℕ → B) (
   -- the first has ended: the answer is whether the second has too
   pub each-end : e ≤ i → whole ≡ each p (rows g i e) (rows h j f) → leb f j ≡ whole
   each-end l w = elim (decLt j f) [ yes m ↦ lt-leb f j m ∙ each-long l m w | no n ↦ le-leb f j (omega arith) ∙ each-none l (omega arith) w ]
+
+  -- the same without a way out: ok is what holds so far
+  pub each-more : (ok : Bool) {r : Bool} → i < e → j < f → r ≡ p (g i) (h j) → whole ≡ (ok && each p (rows g i e) (rows h j f)) → whole ≡ (ok && r && each p (rows g (i + 1) e) (rows h (j + 1) f))
+  unfolding each
+  each-more ok {r} l m t w = w ∙ rw (rows-step g i e l, rows-step h j f m, ← t) (sym (and-assoc ok r _))
+
+  pub each-counted : {ok : Bool} → e ≤ i → f ≤ j → whole ≡ (ok && each p (rows g i e) (rows h j f)) → ok ≡ whole
+  unfolding each
+  each-counted {ok} l m w = sym (w ∙ rw (rows-end g i e l, rows-end h j f m) (and-true ok))
 
   pub front-here : {r : Bool} → i < e → j < f → r ≡ p (g i) (h j) → r ≡ false → whole ≡ front p (rows g i e) (rows h j f) → false ≡ whole
   unfolding front

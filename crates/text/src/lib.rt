@@ -5,6 +5,7 @@ ghost use mathlib.Core.Path.{_≡_};
 ghost use Prim.Native.Nat.{_+_};
 ghost use mathlib.Core.Bool.{_||_};
 ghost use lib.Dec.{eqb};
+ghost use lib.ListN.{length};
 ghost use Rattle.laws.specs.Lists.{any, all, eqList};
 ghost use Rattle.text.specs.Bytes.{isHigh, isName, lowerByte, classOf, wholeTable};
 ghost use Rattle.text.specs.Texts.{takenByte, taken, lowered, startsWith, endsWith, matchDnsName};
@@ -95,28 +96,33 @@ pub fn all_names(s: &[u8]) -> bool
     true
 }
 
-fn equal_bytes(x: u8, y: u8) -> bool
-    ensures { λ r. ⌜ r ≡ eqb x y ⌝ }
+// Whether two texts of one length are equal. The loop has no way out, so that it is compiled to compare many bytes at once.
+fn agree(a: &[u8], b: &[u8]) -> bool
+    requires { ⌜ length (now a) ≡ length (now b) ⌝ }
+    ensures { λ r. ⌜ r ≡ eqList (now (a .entry)) (now (b .entry)) ⌝ }
 {
-    x == y
+    let mut ok = true;
+    let mut i = 0;
+    while i < a.len() {
+        ok = ok & (a[i] == b[i]);
+        i += 1;
+    }
+    ok
 }
 
-// Whether two texts are equal as they stand.
+// Whether two texts are equal as they stand. Most that differ do so in their length or their first byte.
 pub fn same(a: &[u8], b: &[u8]) -> bool
     ensures { λ r. ⌜ r ≡ eqList (now (a .entry)) (now (b .entry)) ⌝ }
 {
     if a.len() != b.len() {
         return false;
     }
-    let mut i = 0;
-    while i < a.len() {
-        if equal_bytes(a[i], b[i]) {
-            i += 1;
-        } else {
+    if 0 < a.len() {
+        if a[0] != b[0] {
             return false;
         }
     }
-    true
+    agree(a, b)
 }
 
 // Whether two bytes are equal or 32 apart. Two others never become equal by lowering, so that most differences need no table.
@@ -132,7 +138,8 @@ fn lowered_equal(x: u8, y: u8) -> bool
     if x == y {
         return true;
     }
-    lower(x) == lower(y)
+    let table = table::whole();
+    table::entry_in(&table, x) % 256 == table::entry_in(&table, y) % 256
 }
 
 fn taken_equal(letters: Letters, x: u8, y: u8) -> bool
