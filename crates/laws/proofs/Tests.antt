@@ -1,11 +1,15 @@
 -- Tests put together by code that asks the second only where it matters, and tests of what may be absent. Assumes nothing.
 use Prim.Native.Nat.{ℕ}
-use mathlib.Core.Path.{_≡_, refl, sym}
+use mathlib.Core.Path.{_≡_, refl, sym, _∙_}
 use mathlib.Core.Bool.{Bool, true, false, _&&_, _||_, false≢true, true≢false}
 use mathlib.Core.Option.{Option, none, some}
 use lib.Dec.{eqb}
 use borrow.Author.Tests.{eq-eqb, ne-eqb, eqb-true, eqb-false}
 use Rattle.laws.specs.Lists.{pick, unlessZero, given}
+
+-- a contract that is an equation allows one answer only
+pub one-answer : {A : Type 0} {r s e : A} → r ≡ e → s ≡ e → r ≡ s
+one-answer p q = p ∙ sym q
 
 -- r answers p and s answers q: what `p && q` and `p || q` answer
 module _ {r p : Bool} (e : r ≡ p) where
