@@ -42,6 +42,22 @@ module _ {A B : Type 0} (p : A → B → Bool) where
     index-each (x ∷ a) [] e h = absurd (omega arith)
     index-each (x ∷ a) (y ∷ b) e h = rw (h zero (omega arith)) (index-each a b (omega arith) (λ k l. h (suc k) (omega arith)))
 
+    -- the same of a list that may be shorter than its partner
+    pub front-index : (a : List A) (b : List B) → front p a b ≡ true → (length a ≤ length b) × ((k : ℕ) → k < length a → p (getD a k d) (getD b k f) ≡ true)
+    unfolding front
+    front-index [] b h = (omega arith, λ k l. absurd (omega arith))
+    front-index (x ∷ a) [] h = absurd (false≢true h)
+    front-index (x ∷ a) (y ∷ b) h = let (l, q) = front-index a b (and-right (p x y) _ h) in (omega arith, at-each (and-left (p x y) _ h) q) where
+      at-each : p x y ≡ true → ((k : ℕ) → k < length a → p (getD a k d) (getD b k f) ≡ true) → (k : ℕ) → k < length (x ∷ a) → p (getD (x ∷ a) k d) (getD (y ∷ b) k f) ≡ true
+      at-each e q zero l = e
+      at-each e q (suc k) l = q k (omega arith)
+
+    pub index-front : (a : List A) (b : List B) → length a ≤ length b → ((k : ℕ) → k < length a → p (getD a k d) (getD b k f) ≡ true) → front p a b ≡ true
+    unfolding front
+    index-front [] b l h = refl
+    index-front (x ∷ a) [] l h = absurd (omega arith)
+    index-front (x ∷ a) (y ∷ b) l h = rw (h zero (omega arith)) (index-front a b (omega arith) (λ k m. h (suc k) (omega arith)))
+
   -- one place at which two lists differ
   pub each-differs : (d : A) (f : B) (a : List A) (b : List B) (k : ℕ) → k < length a → p (getD a k d) (getD b k f) ≡ false → each p a b ≡ false
   each-differs d f a b k l e = go (each p a b) refl where

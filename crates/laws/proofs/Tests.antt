@@ -1,11 +1,10 @@
--- Tests put together by code that asks the second only where it matters, and tests of what may be absent. Assumes nothing.
+-- Tests put together, and taken apart. Assumes nothing.
 use Prim.Native.Nat.{ℕ}
 use mathlib.Core.Path.{_≡_, refl, sym, _∙_}
 use mathlib.Core.Bool.{Bool, true, false, _&&_, _||_, false≢true, true≢false}
-use mathlib.Core.Option.{Option, none, some}
 use lib.Dec.{eqb}
 use borrow.Author.Tests.{eq-eqb, ne-eqb, eqb-true, eqb-false}
-use Rattle.laws.specs.Lists.{pick, unlessZero, given}
+use Rattle.laws.specs.Lists.{pick}
 
 -- a contract that is an equation allows one answer only
 pub one-answer : {A : Type 0} {r s e : A} → r ≡ e → s ≡ e → r ≡ s
@@ -56,13 +55,3 @@ eqb-sym a b = go (eqb a b) refl where
   go : (t : Bool) → eqb a b ≡ t → t ≡ eqb b a
   go true h = sym (eq-eqb b a (sym (eqb-true a b h)))
   go false h = sym (ne-eqb b a (λ e. eqb-false a b h (sym e)))
-
--- what may be absent: k is the code c as it was read
-module _ {A : Type 0} (d : Bool) (f : A → Bool) (x : A) (c : ℕ) {k : ℕ} (e : k ≡ c) where
-  pub absent : k ≡ 0 → d ≡ given d f (unlessZero c x)
-  unfolding given unlessZero
-  absent h = rw (← e, eq-eqb k 0 h) refl
-
-  pub present : {r : Bool} → (k ≡ 0 → ⊥) → r ≡ f x → r ≡ given d f (unlessZero c x)
-  unfolding given unlessZero
-  present h t = rw (← e, ne-eqb k 0 h) t

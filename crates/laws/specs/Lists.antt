@@ -3,7 +3,6 @@ use Prim.Native.Nat.{ℕ, zero, suc, _+_, _-_, _≤_, _<_}
 use mathlib.Core.Path.{_≡_}
 use mathlib.Core.List.{List, [], _∷_}
 use mathlib.Core.Bool.{Bool, true, false, _&&_, _||_}
-use mathlib.Core.Option.{Option, none, some}
 use lib.Dec.{eqb}
 
 -- one of two by a test
@@ -52,7 +51,7 @@ unfoldable pub first : (ℕ → Bool) → ℕ → ℕ → ℕ
 first p a zero = a
 first p a (suc k) = pick (p a) a (first p (a + 1) k)
 
--- the least number from a up to e that passes, and e where none does
+-- the least number from a up to e that passes, and e where none does (a where e lies below it)
 unfoldable pub least : (ℕ → Bool) → ℕ → ℕ → ℕ
 least p a e = first p a (e - a)
 
@@ -64,15 +63,6 @@ isEmpty (x ∷ xs) = false
 -- equal lists of numbers, as a test
 abbrev pub eqList : List ℕ → List ℕ → Bool
 eqList = each eqb
-
--- what is there unless the code is 0
-unfoldable pub unlessZero : {A : Type 0} → ℕ → A → Option A
-unlessZero c x = pick (eqb c 0) none (some x)
-
--- a test of what may be absent: d is the answer where it is
-unfoldable pub given : {A : Type 0} → Bool → (A → Bool) → Option A → Bool
-given d f none = d
-given d f (some x) = f x
 
 -- ---- what the tests mean
 

@@ -1,23 +1,25 @@
 -- The walk through a normal form is the normal form, and its steps. Assumes nothing.
-use Prim.Native.Nat.{ℕ, suc, _+_, _≤_, _<_}
+use Prim.Native.Nat.{ℕ, zero, suc, _+_, _-_, _≤_, _<_}
 use native.Mathlib.Omega.{arith}
 use native.Mathlib.Decide.{decLt}
+use native.Mathlib.Nat.{add-zero}
 use native.Mathlib.Numerals.{add-one}
 use mathlib.Core.Path.{_≡_, refl, sym, ap, _∙_}
 use mathlib.Core.List.{List, [], _∷_, map}
-use mathlib.Core.Bool.{Bool, true, false, _&&_, true≢false, false≢true}
+use mathlib.Core.Bool.{Bool, true, false, not, _&&_, true≢false, false≢true}
 use lib.Dec.{eqb, leb}
 use lib.ListN.{length, getD, drop, drop-of-length-le}
 use lib.Seq.{drop-cons}
-use borrow.Author.Tests.{eq-eqb, ne-eqb, eqb-true, le-leb, lt-leb}
-use Rattle.laws.specs.Lists.{pick, all, each, eqList}
+use borrow.Author.Tests.{eq-eqb, ne-eqb, eqb-true, not-true, not-false, le-leb, lt-leb}
+use Rattle.laws.specs.Lists.{pick, all, each, eqList, least, Least}
 use Rattle.laws.proofs.Tests.{and-left, and-right}
+use Rattle.laws.proofs.Meaning.{least-is}
 use Rattle.laws.proofs.Equal.{equal-list, list-equal}
 use Rattle.text.specs.Bytes.{isSpace, lowerByte, classOf, space}
 use Rattle.text.specs.Texts.{Text, lowered}
 use Rattle.text.proofs.Chars.{lower-space, class-space}
 use Rattle.normal.specs.Normal.{dropFront, dropBack, spaceFirst, oneSpace, normalizeString, sameNormal}
-use Rattle.normal.specs.Walk.{form, stepped, PastSpaces, Advanced}
+use Rattle.normal.specs.Walk.{form, stepped, noSpaceAt, Advanced}
 
 -- ---- the walk is the normal form
 -- the walk, over a text that is lowered already
@@ -102,25 +104,40 @@ module _ (s : Text) (i : ℕ) where
   unfolding form dropFront
   at-space h e = rw (drop-cons s i 0 h, e) (form-owe (drop (suc i) s))
 
-  pub front-space : i < length s → isSpace (getD s i 0) ≡ true → dropFront (drop i s) ≡ dropFront (drop (i + 1) s)
+  front-space : i < length s → isSpace (getD s i 0) ≡ true → dropFront (drop i s) ≡ dropFront (drop (i + 1) s)
   unfolding dropFront
   front-space h e = rw (add-one, drop-cons s i 0 h, e) refl
 
-  pub front-byte : i < length s → isSpace (getD s i 0) ≡ false → dropFront (drop i s) ≡ drop i s
+  front-byte : i < length s → isSpace (getD s i 0) ≡ false → dropFront (drop i s) ≡ drop i s
   unfolding dropFront
   front-byte h e = rw (drop-cons s i 0 h, e) refl
 
-  pub front-end : length s ≤ i → dropFront (drop i s) ≡ drop i s
+  front-end : length s ≤ i → dropFront (drop i s) ≡ drop i s
   unfolding dropFront
   front-end h = rw (drop-of-length-le s h) refl
 
--- ---- past the spaces: k is where the loop stands, and what it read there is r
-module _ (s : Text) (i k : ℕ) (from : i ≤ k) (same : dropFront (drop i s) ≡ dropFront (drop k s)) where
-  pub stop-here : k < length s → {r : Bool} → r ≡ isSpace (getD s k 0) → r ≡ false → PastSpaces s i k
-  stop-here h e y = record { from = from; within = omega arith; spaces = same ∙ front-byte s k h (sym e ∙ y); stops = λ l z. true≢false (sym (eq-eqb _ _ z) ∙ sym e ∙ y) }
+-- ---- past the spaces
+skipped : (s : Text) (i n : ℕ) → i + n ≤ length s → ((k : ℕ) → i ≤ k → k < i + n → isSpace (getD s k 0) ≡ true) → dropFront (drop i s) ≡ dropFront (drop (i + n) s)
+skipped s i zero h e = rw add-zero refl
+skipped s i (suc n) h e = front-space s i (omega arith) (e i (omega arith) (omega arith)) ∙ skipped s (i + 1) n (omega arith) (λ k l m. e k (omega arith) (omega arith)) ∙ (let q : i + 1 + n ≡ i + suc n = omega arith in rw q refl)
 
-  pub stop-end : k ≤ length s → length s ≤ k → PastSpaces s i k
-  stop-end w h = record { from = from; within = w; spaces = same ∙ front-end s k h; stops = λ l z. omega arith }
+-- k is the first place from i on without a space, or the end
+record PastSpaces (s : Text) (i k : ℕ) : Type 0 where
+  from : i ≤ k
+  within : k ≤ length s
+  spaces : dropFront (drop i s) ≡ drop k s
+  stops : k < length s → isSpace (getD s k 0) ≡ false
+
+past : (s : Text) (i k : ℕ) → i ≤ length s → k ≡ least (noSpaceAt s) i (length s) → PastSpaces s i k
+unfolding noSpaceAt
+past s i k h e =
+    let m : Least (noSpaceAt s) i (length s) k = rw e (least-is (noSpaceAt s) i (length s) h) in
+    let q : i + (k - i) ≡ k = omega (arith, m .low) in
+    let gone : dropFront (drop i s) ≡ dropFront (drop k s) = rw q at (skipped s i (k - i) (omega (arith, m .low, m .high)) (λ n l t. not-false _ (m .before n l (omega (arith, m .low))))) in
+    record { from = m .low; within = m .high; spaces = gone ∙ ended m; stops = λ l. not-true _ (m .passes l) }
+  where
+    ended : Least (noSpaceAt s) i (length s) k → dropFront (drop k s) ≡ drop k s
+    ended m = elim (decLt k (length s)) [ yes l ↦ front-byte s k l (not-true _ (m .passes l)) | no n ↦ front-end s k (omega arith) ]
 
 pub space-is : {k : ℕ} (x : ℕ) → k ≡ classOf x → k ≡ space → isSpace x ≡ true
 space-is x e h = sym (class-space x) ∙ eq-eqb _ _ (sym e ∙ h)
@@ -136,17 +153,20 @@ module _ (s : Text) (i : ℕ) (h : i < length s) where
   step-byte e n f = record { gives = rw f (at-byte s i h (sym (class-space (getD s i 0)) ∙ rw (← e) (ne-eqb _ _ n))); within = omega arith; further = λ z. omega arith }
 
   -- k is past the spaces that begin at i
-  module _ (k : ℕ) (e : isSpace (getD s i 0) ≡ true) (p : PastSpaces s i k) where
+  module _ (k : ℕ) (e : isSpace (getD s i 0) ≡ true) (z : k ≡ least (noSpaceAt s) i (length s)) where
+    p : PastSpaces s i k
+    p = past s i k (omega arith) z
+
     space-more : k < length s → form false (drop i s) ≡ 32 ∷ form false (drop k s)
     unfolding owe
-    space-more l = at-space s i h e ∙ rw (p .spaces, at-byte s k l (ne-eqb _ _ (p .stops l)), add-one, drop-cons s k 0 l) refl
+    space-more l = at-space s i h e ∙ rw (p .spaces, at-byte s k l (p .stops l), add-one, drop-cons s k 0 l) refl
 
     space-end : length s ≤ k → form false (drop i s) ≡ []
     unfolding owe
     space-end l = at-space s i h e ∙ rw (p .spaces, drop-of-length-le s l) refl
 
     later : k < length s → i < k
-    later l = elim (decLt i k) [ yes m ↦ m | no m ↦ let q : i ≡ k = omega (arith, p .from) in absurd (p .stops l (rw (← q) (eqb-true _ _ e))) ]
+    later l = elim (decLt i k) [ yes m ↦ m | no m ↦ let q : i ≡ k = omega (arith, p .from) in absurd (true≢false (sym e ∙ rw q (p .stops l))) ]
 
     pub step-space : Advanced s i (record { end = leb (length s) k; byte = 32; at = k })
     unfolding stepped
@@ -157,9 +177,12 @@ module _ (s : Text) (i : ℕ) (h : i < length s) where
 
 -- ---- two normal forms in step
 module _ (a b : Text) where
-  pub same-start : {i j : ℕ} → PastSpaces a 0 i → PastSpaces b 0 j → sameNormal a b ≡ eqList (form false (drop i a)) (form false (drop j b))
+  pub same-start : (i j : ℕ) → i ≡ least (noSpaceAt a) 0 (length a) → j ≡ least (noSpaceAt b) 0 (length b) → (i ≤ length a) × (j ≤ length b) × (sameNormal a b ≡ eqList (form false (drop i a)) (form false (drop j b)))
   unfolding sameNormal
-  same-start p q = rw (walked a, walked b, p .spaces, q .spaces) refl
+  same-start i j e f =
+      let p : PastSpaces a 0 i = past a 0 i (omega arith) e in
+      let q : PastSpaces b 0 j = past b 0 j (omega arith) f in
+      (p .within, q .within, rw (walked a, walked b, p .spaces, q .spaces) refl)
 
   pub same-texts : {r : Bool} → r ≡ eqList a b → r ≡ true → true ≡ sameNormal a b
   unfolding sameNormal

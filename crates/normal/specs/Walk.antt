@@ -2,12 +2,11 @@
 use Prim.Native.Nat.{ℕ, _≤_, _<_}
 use mathlib.Core.Path.{_≡_}
 use mathlib.Core.List.{[], _∷_}
-use mathlib.Core.Bool.{Bool, true, false}
+use mathlib.Core.Bool.{Bool, true, false, not}
 use lib.ListN.{length, drop, getD}
 use Rattle.laws.specs.Lists.{pick}
 use Rattle.text.specs.Bytes.{isSpace, lowerByte}
 use Rattle.text.specs.Texts.{Text}
-use Rattle.normal.specs.Normal.{dropFront}
 use Rattle.normal.specs.declared.Step.{Step}
 
 -- what is left of a normal form; a space that was passed is owed until a byte follows it
@@ -20,12 +19,9 @@ unfoldable pub stepped : Bool → ℕ → Text → Text
 stepped true x rest = []
 stepped false x rest = x ∷ rest
 
--- k is the first place from i on without a space, or the end
-pub record PastSpaces (s : Text) (i k : ℕ) : Type 0 where
-  pub from : i ≤ k
-  pub within : k ≤ length s
-  pub spaces : dropFront (drop i s) ≡ drop k s
-  pub stops : k < length s → getD s k 0 ≡ 32 → ⊥
+-- place k of s holds no space
+unfoldable pub noSpaceAt : Text → ℕ → Bool
+noSpaceAt s k = not (isSpace (getD s k 0))
 
 -- r is one step through the normal form of s from i on
 pub record Advanced (s : Text) (i : ℕ) (r : Step) : Type 0 where

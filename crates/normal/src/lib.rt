@@ -1,37 +1,38 @@
 // Texts compared in normal form, byte by byte, without a buffer.
 ghost use mathlib.Core.Path.{_≡_};
 ghost use Prim.Native.Nat.{_≤_};
+ghost use mathlib.Core.Bool.{not};
 ghost use lib.ListN.{length};
+ghost use Rattle.laws.specs.Lists.{least};
 ghost use Rattle.text.specs.Bytes.{isSpace, wholeTable};
 ghost use Rattle.normal.specs.Normal.{sameNormal};
-ghost use Rattle.normal.specs.Walk.{PastSpaces, Advanced};
+ghost use Rattle.normal.specs.Walk.{noSpaceAt, Advanced};
 
 // A step through a normal form: its end, or a byte of it and where the rest begins.
-pub struct Step {
-    pub end: bool,
-    pub byte: u8,
-    pub at: usize,
+struct Step {
+    end: bool,
+    byte: u8,
+    at: usize,
 }
 
-fn is_space(table: &[u16; 256], x: u8) -> bool
+fn is_no_space(table: &[u16; 256], x: u8) -> bool
     requires { ⌜ now table ≡ wholeTable ⌝ }
-    ensures { λ r. ⌜ r ≡ isSpace x ⌝ }
+    ensures { λ r. ⌜ r ≡ not (isSpace x) ⌝ }
 {
-    text::table::entry_in(table, x) / 256 == text::SPACE as u16
+    text::table::entry_in(table, x) / 256 != text::SPACE as u16
 }
 
 // The first place from i on that holds no space, or the end.
 fn past_spaces(table: &[u16; 256], s: &[u8], i: usize) -> usize
-    requires { ⌜ (now table ≡ wholeTable) × (i ≤ length (now s)) ⌝ }
-    ensures { λ k. ⌜ PastSpaces (now (s .entry)) i k ⌝ }
+    requires { ⌜ now table ≡ wholeTable ⌝ }
+    ensures { λ r. ⌜ r ≡ least (noSpaceAt (now (s .entry))) i (length (now (s .entry))) ⌝ }
 {
     let mut k = i;
     while k < s.len() {
-        if is_space(table, s[k]) {
-            k += 1;
-        } else {
+        if is_no_space(table, s[k]) {
             return k;
         }
+        k += 1;
     }
     k
 }

@@ -12,7 +12,7 @@ use Rattle.laws.specs.Lists.{any, all, each, eqList, isEmpty, pick}
 use Rattle.laws.proofs.Meaning.{any-agree, any-map}
 use Rattle.laws.proofs.Parts.{rest, empty-length}
 use Rattle.laws.proofs.Tests.{and-left, and-right, pick-true, pick-false}
-use Rattle.text.specs.Bytes.{isDot, isStar, isName, dot, star, classOf, lowerByte}
+use Rattle.text.specs.Bytes.{isDot, isStar, isHostByte, dot, star, classOf, lowerByte}
 use Rattle.text.specs.Texts.{Text, quoted, lowered, taken, startsWith, endsWith, covers, matchDnsName}
 use Rattle.text.specs.declared.Letters.{Letters}
 use Rattle.text.proofs.Chars.{class-dot, class-star, lower-dot, lower-star}
@@ -110,12 +110,12 @@ pub host-empty : (s : Text) → length s ≡ 0 → false ≡ hostText s
 unfolding hostText
 host-empty s h = rw (empty-length s, eq-eqb (length s) 0 h) refl
 
-pub host-some : (s : Text) {r : Bool} → (length s ≡ 0 → ⊥) → r ≡ all isName s → r ≡ hostText s
+pub host-some : (s : Text) {r : Bool} → (length s ≡ 0 → ⊥) → r ≡ all isHostByte s → r ≡ hostText s
 unfolding hostText
 host-some s h t = t ∙ rw (empty-length s, ne-eqb (length s) 0 h) refl
 
 -- a text that begins with a star isn't made of such bytes
-star-first : (s : Text) → startsWith s (quoted "*.") ≡ true → all isName s ≡ false
+star-first : (s : Text) → startsWith s (quoted "*.") ≡ true → all isHostByte s ≡ false
 unfolding startsWith each all
 star-first [] h = absurd (false≢true h)
 star-first (x ∷ s) h = let e : 42 ≡ x = eqb-true 42 x (and-left (eqb 42 x) _ (and-right (leb 2 (length (x ∷ s))) _ h)) in rw (← e) refl

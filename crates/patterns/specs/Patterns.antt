@@ -4,7 +4,7 @@ use mathlib.Core.Bool.{Bool, not, _&&_, _||_}
 use lib.Dec.{ltb}
 use lib.ListN.{length, take, drop}
 use Rattle.laws.specs.Lists.{any, all, eqList, isEmpty, pick}
-use Rattle.text.specs.Bytes.{isDot, isStar, isName}
+use Rattle.text.specs.Bytes.{isDot, isStar, isHostByte}
 use Rattle.text.specs.Texts.{Text, quoted, lowered, startsWith, endsWith, covers}
 
 -- one label stands in the name n before the end t: n is longer, ends with t, and has no dot before it
@@ -32,7 +32,7 @@ permitName c n = covers (cleanName c) n
 
 -- not empty, and only letters, digits, hyphens, underscores and dots
 unfoldable pub hostText : Text → Bool
-hostText s = not (isEmpty s) && all isName s
+hostText s = not (isEmpty s) && all isHostByte s
 
 -- such a text; or `*.` and then such a text that holds a dot
 unfoldable pub checkValidPattern : Text → Bool

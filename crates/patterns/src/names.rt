@@ -62,7 +62,7 @@ fn host_text(s: &[u8]) -> bool
     if s.len() == 0 {
         return false;
     }
-    text::all_names(s)
+    text::all_host_bytes(s)
 }
 
 // Whether a pattern is one that OpenSSL takes.

@@ -13,7 +13,7 @@ use Rattle.laws.specs.Lists.{all, numbers, rows, run, pick}
 use Rattle.laws.proofs.Meaning.{all-every}
 use Rattle.laws.proofs.Rows.{rows-at}
 use Rattle.laws.proofs.Tests.{or-left, or-right}
-use Rattle.text.specs.Bytes.{isUpper, isDot, isStar, isSpace, isHigh, isName, lowerByte, classOf, entryOf, wholeTable, letter, dot, star, space, high}
+use Rattle.text.specs.Bytes.{isUpper, isDot, isStar, isSpace, isHigh, isHostByte, lowerByte, classOf, entryOf, wholeTable, letter, dot, star, space, high}
 
 -- ---- one law carries what is tested on the first numbers to each of them
 pub tested : (f : ℕ → Bool) (n : ℕ) → all f (numbers 0 n) ≡ true → (x : ℕ) → x < n → f x ≡ true
@@ -92,13 +92,13 @@ pub class-high : (x : ℕ) → eqb (classOf x) high ≡ isHigh x
 unfolding all rows run classOf
 class-high = agree _ _ refl (λ x h. rw (class-above x h) (sym (le-leb 128 x h)))
 
-name-above : (x : ℕ) → 128 ≤ x → isName x ≡ false
-name-above x h = rw (lt-leb x 90 (omega arith), lt-leb x 122 (omega arith), lt-leb x 57 (omega arith), and-false (leb 65 x), and-false (leb 97 x), and-false (leb 48 x), not-above 45 (omega arith) x h, not-above 95 (omega arith) x h, not-above 46 (omega arith) x h) refl
+host-above : (x : ℕ) → 128 ≤ x → isHostByte x ≡ false
+host-above x h = rw (lt-leb x 90 (omega arith), lt-leb x 122 (omega arith), lt-leb x 57 (omega arith), and-false (leb 65 x), and-false (leb 97 x), and-false (leb 48 x), not-above 45 (omega arith) x h, not-above 95 (omega arith) x h, not-above 46 (omega arith) x h) refl
 
 -- the classes from letter to dot are those of a name's bytes
-pub class-name : (x : ℕ) → (leb letter (classOf x) && leb (classOf x) dot) ≡ isName x
+pub class-host : (x : ℕ) → (leb letter (classOf x) && leb (classOf x) dot) ≡ isHostByte x
 unfolding all rows run classOf
-class-name = agree _ _ refl (λ x h. rw (class-above x h) (sym (name-above x h)))
+class-host = agree _ _ refl (λ x h. rw (class-above x h) (sym (host-above x h)))
 
 -- ---- what lowering keeps
 -- two bytes that are neither equal nor 32 apart don't become equal, whichever of them is raised by 32

@@ -31,8 +31,8 @@ abbrev pub isSpace : ℕ → Bool
 isSpace x = eqb x 32
 
 -- what a host name is made of: letter, digit, hyphen, underscore or dot
-abbrev pub isName : ℕ → Bool
-isName x = isLetter x || isDigit x || isJoiner x || isDot x
+abbrev pub isHostByte : ℕ → Bool
+isHostByte x = isLetter x || isDigit x || isJoiner x || isDot x
 
 -- no ASCII character
 abbrev pub isHigh : ℕ → Bool

@@ -7,7 +7,7 @@ ghost use mathlib.Core.Bool.{_||_};
 ghost use lib.Dec.{eqb};
 ghost use lib.ListN.{length};
 ghost use Rattle.laws.specs.Lists.{any, all, eqList};
-ghost use Rattle.text.specs.Bytes.{isHigh, isName, lowerByte, classOf, wholeTable};
+ghost use Rattle.text.specs.Bytes.{isHigh, isHostByte, lowerByte, classOf, wholeTable};
 ghost use Rattle.text.specs.Texts.{takenByte, taken, lowered, startsWith, endsWith, matchDnsName};
 
 // The classes of bytes that somebody asks for.
@@ -43,7 +43,7 @@ pub fn class_of(x: u8) -> u8
     (table::entry_in(&table, x) / 256) as u8
 }
 
-fn is_class_in(table: &[u16; 256], x: u8, class: u8) -> bool
+fn is_class(table: &[u16; 256], x: u8, class: u8) -> bool
     requires { ⌜ now table ≡ wholeTable ⌝ }
     ensures { λ r. ⌜ r ≡ eqb (classOf x) class ⌝ }
 {
@@ -57,7 +57,7 @@ pub fn has_class(s: &[u8], class: u8) -> bool
     let table = table::whole();
     let mut i = 0;
     while i < s.len() {
-        if is_class_in(&table, s[i], class) {
+        if is_class(&table, s[i], class) {
             return true;
         }
         i += 1;
@@ -72,22 +72,22 @@ pub fn has_high(s: &[u8]) -> bool
     has_class(s, HIGH)
 }
 
-fn is_name_in(table: &[u16; 256], x: u8) -> bool
+fn is_host_byte(table: &[u16; 256], x: u8) -> bool
     requires { ⌜ now table ≡ wholeTable ⌝ }
-    ensures { λ r. ⌜ r ≡ isName x ⌝ }
+    ensures { λ r. ⌜ r ≡ isHostByte x ⌝ }
 {
     let class = table::entry_in(table, x) / 256;
     (LETTER as u16 <= class) & (class <= DOT as u16)
 }
 
 // Whether each byte is one of those that a host name is made of.
-pub fn all_names(s: &[u8]) -> bool
-    ensures { λ r. ⌜ r ≡ all isName (now (s .entry)) ⌝ }
+pub fn all_host_bytes(s: &[u8]) -> bool
+    ensures { λ r. ⌜ r ≡ all isHostByte (now (s .entry)) ⌝ }
 {
     let table = table::whole();
     let mut i = 0;
     while i < s.len() {
-        if is_name_in(&table, s[i]) {
+        if is_host_byte(&table, s[i]) {
             i += 1;
         } else {
             return false;

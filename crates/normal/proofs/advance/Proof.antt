@@ -27,7 +27,7 @@ returns-2 : tie.Need-returns-2
 returns-2 c = step-byte _ _ (c .before .before .before .if1 .left) (entry-class _ (omega (arith, (c .before .before .shared-slice-known2 .given (c .before .before .before .before .before .args .i)))) _ (c .before .before .before .before .before .pre .0) (c .before .entry-in .ensures)) (c .if2 .taken) (entry-lower _ (omega (arith, (c .before .before .shared-slice-known2 .given (c .before .before .before .before .before .args .i)))) _ (c .before .before .before .before .before .pre .0) (c .before .entry-in .ensures))
 
 past-spaces-requires : tie.Need-past-spaces-requires
-past-spaces-requires c κs = search needs
+past-spaces-requires c κs = c .before .before .before .before .before .pre .0
 
 returns-3 : tie.Need-returns-3
 returns-3 c = step-space _ _ (c .before .before .before .before .if1 .left) _ (space-is _ (entry-class _ (omega (arith, (c .before .before .before .shared-slice-known2 .given (c .before .before .before .before .before .before .args .i)))) _ (c .before .before .before .before .before .before .pre .0) (c .before .before .entry-in .ensures)) (c .before .if2 .left)) (c .past-spaces .ensures)

@@ -27,13 +27,13 @@ whole-requires : tie.Need-whole-requires Inv-loop μ-loop
 whole-requires c κs = search needs
 
 past-spaces-requires : tie.Need-past-spaces-requires Inv-loop μ-loop
-past-spaces-requires c κs = ((c .before .whole .ensures), omega arith)
+past-spaces-requires c κs = c .before .whole .ensures
 
 past-spaces-requires-2 : tie.Need-past-spaces-requires-2 Inv-loop μ-loop
-past-spaces-requires-2 c κs = ((c .before .before .before .whole .ensures), omega arith)
+past-spaces-requires-2 c κs = c .before .before .before .whole .ensures
 
 loop-holds : tie.Need-loop-holds Inv-loop μ-loop
-loop-holds c = ((c .before .before .past-spaces .ensures .within), (c .past-spaces2 .ensures .within), same-start _ _ (c .before .before .past-spaces .ensures) (c .past-spaces2 .ensures))
+loop-holds c = same-start _ _ _ _ (c .before .before .past-spaces .ensures) (c .past-spaces2 .ensures)
 
 advance-requires : tie.Need-advance-requires Inv-loop μ-loop
 advance-requires c κs = ((c .before .before .before .before .before .before .whole .ensures), (c .before .loop .inv .0))

@@ -23,15 +23,15 @@ whole-requires c κs = search needs
 loop-holds : tie.Need-loop-holds Inv-loop μ-loop
 loop-holds c = any-start 0 _ _
 
-shared-slice-read-is-class-in : tie.Need-shared-slice-read-is-class-in Inv-loop μ-loop
-shared-slice-read-is-class-in c = search needs
+shared-slice-read-is-class : tie.Need-shared-slice-read-is-class Inv-loop μ-loop
+shared-slice-read-is-class c = search needs
 
-is-class-in-requires : tie.Need-is-class-in-requires Inv-loop μ-loop
-is-class-in-requires c κs = (c .before .before .before .before .whole .ensures)
+is-class-requires : tie.Need-is-class-requires Inv-loop μ-loop
+is-class-requires c κs = (c .before .before .before .before .whole .ensures)
 
 returns : tie.Need-returns Inv-loop μ-loop
 unfolding at
-returns c = any-here _ _ _ _ (c .before .before .before .before .loop-test .taken) (c .before .is-class-in .ensures) (c .if1 .taken) (c .before .before .before .before .before .loop .inv)
+returns c = any-here _ _ _ _ (c .before .before .before .before .loop-test .taken) (c .before .is-class .ensures) (c .if1 .taken) (c .before .before .before .before .before .loop .inv)
 
 add-i : tie.Need-add-i Inv-loop μ-loop
 add-i c = search needs
@@ -41,7 +41,7 @@ loop-less c = search needs
 
 loop-again : tie.Need-loop-again Inv-loop μ-loop
 unfolding at
-loop-again c = any-next _ _ _ _ (c .before .before .before .before .loop-test .taken) (c .before .is-class-in .ensures) (c .if1 .left) (c .before .before .before .before .before .loop .inv)
+loop-again c = any-next _ _ _ _ (c .before .before .before .before .loop-test .taken) (c .before .is-class .ensures) (c .if1 .left) (c .before .before .before .before .before .loop .inv)
 
 returns-2 : tie.Need-returns-2 Inv-loop μ-loop
 returns-2 c = any-none _ _ _ _ (c .loop-test .left) (c .before .loop .inv)
@@ -54,8 +54,8 @@ has-class-spec =
     μ-loop
     whole-requires
     loop-holds
-    shared-slice-read-is-class-in
-    is-class-in-requires
+    shared-slice-read-is-class
+    is-class-requires
     returns
     add-i
     loop-less

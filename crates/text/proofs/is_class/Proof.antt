@@ -4,8 +4,8 @@ use Prim.Native.Nat.{ℕ}
 use lib.Dec.{eqb}
 use Rattle.text.proofs.Chars.{entry-class}
 use borrow.Author.Needs.{needs}
-use Rattle.text.proofs.is_class_in.Statement.{statement}
-use Rattle.text.proofs.is_class_in.Tie as tie
+use Rattle.text.proofs.is_class.Statement.{statement}
+use Rattle.text.proofs.is_class.Tie as tie
 
 entry-in-requires : tie.Need-entry-in-requires
 entry-in-requires c κs = search needs
@@ -13,5 +13,5 @@ entry-in-requires c κs = search needs
 returns : tie.Need-returns
 returns c = ap (λ (n : ℕ). eqb n (c .before .args .class)) (entry-class _ (omega arith) _ (c .before .pre) (c .entry-in .ensures))
 
-pub is-class-in-spec : {M : Type 1} → statement M
-is-class-in-spec = tie.close (tie.spec entry-in-requires returns)
+pub is-class-spec : {M : Type 1} → statement M
+is-class-spec = tie.close (tie.spec entry-in-requires returns)
