@@ -17,7 +17,7 @@ use Rattle.text.specs.Texts.{Text, quoted, lowered, taken, startsWith, endsWith
 use Rattle.text.specs.declared.Letters.{Letters}
 use Rattle.text.proofs.Chars.{class-dot, class-star, lower-dot, lower-star}
 use Rattle.text.proofs.Laws.{lowered-length, taken-length, lowered-take, taken-drop, lowered-at, starts-taken, no-dot, last-dot}
-use Rattle.patterns.specs.Patterns.{oneLabel, matchName, finalDotOff, cleanName, permitName, hostText, checkValidPattern, validNameConstraint}
+use Rattle.patterns.specs.Patterns.{oneLabel, matchName, finalDotOff, cleanName, Cleaned, permitName, hostText, checkValidPattern, validNameConstraint}
 
 -- some byte of a lowered text is the character that a class stands for
 lowered-any : (k : ℕ) (p : ℕ → Bool) → ((x : ℕ) → eqb (classOf x) k ≡ p x) → ((x : ℕ) → p (lowerByte x) ≡ p x) → (s : Text) → any (λ x. eqb (classOf x) k) s ≡ any p (lowered s)
@@ -70,22 +70,6 @@ module _ (letters : Letters) (p n : Text) {e : Bool} (f : e ≡ startsWith p (qu
       name-under z t = t ∙ rw (rest 1 p, taken-drop letters 1 p) (sym (opened ∙ rw (lt-ltb 2 (length p) h, ← apex, z) refl))
 
 -- ---- cleaning
-pub clean-empty : (s : Text) → length s ≡ 0 → s ≡ finalDotOff s
-unfolding finalDotOff
-clean-empty s h = sym (pick-false _ _ (no-dot s h))
-
-module _ (s : Text) (h : length s ≡ 0 → ⊥) {k : ℕ} (e : k ≡ classOf (getD s (length s - 1) 0)) where
-  dotted : endsWith s (quoted ".") ≡ eqb k dot
-  dotted = last-dot s h ∙ rw (← class-dot, e) refl
-
-  pub clean-dot : k ≡ dot → take (length s - 1) s ≡ finalDotOff s
-  unfolding finalDotOff
-  clean-dot y = sym (pick-true _ _ (dotted ∙ eq-eqb k dot y))
-
-  pub clean-none : (k ≡ dot → ⊥) → s ≡ finalDotOff s
-  unfolding finalDotOff
-  clean-none y = sym (pick-false _ _ (dotted ∙ ne-eqb k dot y))
-
 -- lowering makes no dot and takes none away
 lowered-dot : (s : Text) → endsWith (lowered s) (quoted ".") ≡ endsWith s (quoted ".")
 lowered-dot s = elim (decLt 0 (length s)) [
@@ -93,7 +77,7 @@ lowered-dot s = elim (decLt 0 (length s)) [
   | no n ↦ let h : length s ≡ 0 = omega arith in no-dot (lowered s) (lowered-length s ∙ h) ∙ sym (no-dot s h)
 ]
 
--- the part that the code hands back is the clean name once it is lowered
+-- the part without the final dot is the clean name once it is lowered
 pub lowered-clean : (s : Text) → lowered (finalDotOff s) ≡ cleanName s
 unfolding cleanName finalDotOff
 lowered-clean s = rw (lowered-dot s, lowered-length s) (go (endsWith s (quoted "."))) where
@@ -101,9 +85,28 @@ lowered-clean s = rw (lowered-dot s, lowered-length s) (go (endsWith s (quoted "
   go true = lowered-take (length s - 1) s
   go false = refl
 
-pub permitted : (c n : Text) {d : Text} {r : Bool} → d ≡ finalDotOff c → r ≡ matchDnsName d n → r ≡ permitName c (lowered n)
+cleaned : (s : Text) {r : Text} → r ≡ finalDotOff s → Cleaned s r
+cleaned s e = record { part = e; clean = ap lowered e ∙ lowered-clean s }
+
+pub clean-empty : (s : Text) → length s ≡ 0 → Cleaned s s
+unfolding finalDotOff
+clean-empty s h = cleaned s (sym (pick-false _ _ (no-dot s h)))
+
+module _ (s : Text) (h : length s ≡ 0 → ⊥) {k : ℕ} (e : k ≡ classOf (getD s (length s - 1) 0)) where
+  dotted : endsWith s (quoted ".") ≡ eqb k dot
+  dotted = last-dot s h ∙ rw (← class-dot, e) refl
+
+  pub clean-dot : k ≡ dot → Cleaned s (take (length s - 1) s)
+  unfolding finalDotOff
+  clean-dot y = cleaned s (sym (pick-true _ _ (dotted ∙ eq-eqb k dot y)))
+
+  pub clean-none : (k ≡ dot → ⊥) → Cleaned s s
+  unfolding finalDotOff
+  clean-none y = cleaned s (sym (pick-false _ _ (dotted ∙ ne-eqb k dot y)))
+
+pub permitted : (c n : Text) {d : Text} {r : Bool} → Cleaned c d → r ≡ matchDnsName d n → r ≡ permitName c (lowered n)
 unfolding matchDnsName permitName
-permitted c n e t = t ∙ rw (e, lowered-clean c) refl
+permitted c n e t = t ∙ rw (e .clean) refl
 
 -- ---- what a host name is made of
 pub host-empty : (s : Text) → length s ≡ 0 → false ≡ hostText s
@@ -142,18 +145,15 @@ module _ (s : Text) {e : Bool} (f : e ≡ startsWith s (quoted "*.")) where
     valid-none z = sym (starred ∙ rw z refl)
 
 -- ---- a DNS constraint; d is the part that cleaning hands back
-module _ (c : Text) {d : Text} (e : d ≡ finalDotOff c) where
-  cleaned : lowered d ≡ cleanName c
-  cleaned = ap lowered e ∙ lowered-clean c
-
+module _ (c : Text) {d : Text} (e : Cleaned c d) where
   pub constraint-empty : length d ≡ 0 → false ≡ validNameConstraint c
   unfolding validNameConstraint
-  constraint-empty h = rw (← cleaned, empty-length (lowered d), lowered-length d, eq-eqb (length d) 0 h) refl
+  constraint-empty h = rw (← e .clean, empty-length (lowered d), lowered-length d, eq-eqb (length d) 0 h) refl
 
   module _ (h : length d ≡ 0 → ⊥) {k : ℕ} (g : k ≡ classOf (getD d (length d - 1) 0)) where
     opened-constraint : validNameConstraint c ≡ (not (eqb k dot) && not (any isStar (lowered d)))
     unfolding validNameConstraint
-    opened-constraint = rw (← cleaned, empty-length (lowered d), lowered-length d, ne-eqb (length d) 0 h, lowered-dot d, last-dot d h, ← class-dot (getD d (length d - 1) 0), ← g) refl
+    opened-constraint = rw (← e .clean, empty-length (lowered d), lowered-length d, ne-eqb (length d) 0 h, lowered-dot d, last-dot d h, ← class-dot (getD d (length d - 1) 0), ← g) refl
 
     pub constraint-dot : k ≡ dot → false ≡ validNameConstraint c
     constraint-dot y = sym (opened-constraint ∙ rw (eq-eqb k dot y) refl)

@@ -1,5 +1,6 @@
 -- Host names: cleaning, wildcard patterns, covering by a cleaned constraint (document 01, "Own text rules", and the bodies of common.rs and chrome.rs). Assumes nothing.
 use Prim.Native.Nat.{_-_}
+use mathlib.Core.Path.{_≡_}
 use mathlib.Core.Bool.{Bool, not, _&&_, _||_}
 use lib.Dec.{ltb}
 use lib.ListN.{length, take, drop}
@@ -25,6 +26,11 @@ finalDotOff s = pick (endsWith s (quoted ".")) (take (length s - 1) s) s
 -- lowered, and one final dot off
 unfoldable pub cleanName : Text → Text
 cleanName s = finalDotOff (lowered s)
+
+-- r is the part of s without one final dot, and once lowered the clean name
+pub record Cleaned (s r : Text) : Type 0 where
+  pub part : r ≡ finalDotOff s
+  pub clean : lowered r ≡ cleanName s
 
 -- Chrome's covering: the constraint is cleaned, the name taken as given
 unfoldable pub permitName : Text → Text → Bool

@@ -1,7 +1,7 @@
 // Host names: patterns with wildcards, cleaning, constraints.
 ghost use mathlib.Core.Path.{_≡_};
 ghost use Rattle.text.specs.Texts.{taken, lowered};
-ghost use Rattle.patterns.specs.Patterns.{oneLabel, matchName, finalDotOff, permitName, hostText, checkValidPattern, validNameConstraint};
+ghost use Rattle.patterns.specs.Patterns.{oneLabel, matchName, Cleaned, permitName, hostText, checkValidPattern, validNameConstraint};
 use text::Letters;
 
 // Whether just one label stands in the lowered name before the tail.
@@ -34,9 +34,9 @@ pub fn match_name(letters: Letters, pattern: &[u8], name: &[u8]) -> bool
     one_label(letters, &pattern[1..], name)
 }
 
-// The name without one final dot, as a part of it. Lowered, it is the clean name.
+// The clean name, as a part of the name: the final dot is off, the letters are not lowered yet.
 pub fn clean_name(name: &[u8]) -> &[u8]
-    ensures { λ r. ⌜ now r ≡ finalDotOff (now (name .entry)) ⌝ }
+    ensures { λ r. ⌜ Cleaned (now (name .entry)) (now r) ⌝ }
 {
     let n = name.len();
     if n == 0 {

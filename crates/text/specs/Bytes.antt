@@ -5,28 +5,31 @@ use mathlib.Core.Bool.{Bool, _&&_, _||_}
 use lib.Dec.{leb, eqb}
 use Rattle.laws.specs.Lists.{pick, rows}
 
--- A to Z
+-- A to Z (bytes 65 to 90)
 abbrev pub isUpper : ℕ → Bool
 isUpper x = leb 65 x && leb x 90
 
--- A to Z or a to z
+-- A to Z, or a to z (bytes 97 to 122)
 abbrev pub isLetter : ℕ → Bool
 isLetter x = isUpper x || (leb 97 x && leb x 122)
 
--- 0 to 9
+-- 0 to 9 (bytes 48 to 57)
 abbrev pub isDigit : ℕ → Bool
 isDigit x = leb 48 x && leb x 57
 
--- hyphen or underscore
+-- hyphen (byte 45) or underscore (byte 95)
 abbrev pub isJoiner : ℕ → Bool
 isJoiner x = eqb x 45 || eqb x 95
 
+-- byte 46
 abbrev pub isDot : ℕ → Bool
 isDot x = eqb x 46
 
+-- byte 42
 abbrev pub isStar : ℕ → Bool
 isStar x = eqb x 42
 
+-- byte 32
 abbrev pub isSpace : ℕ → Bool
 isSpace x = eqb x 32
 
@@ -34,7 +37,7 @@ isSpace x = eqb x 32
 abbrev pub isHostByte : ℕ → Bool
 isHostByte x = isLetter x || isDigit x || isJoiner x || isDot x
 
--- no ASCII character
+-- over 127: no ASCII character
 abbrev pub isHigh : ℕ → Bool
 isHigh x = leb 128 x
 

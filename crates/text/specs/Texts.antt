@@ -11,6 +11,7 @@ use Rattle.text.specs.Bytes.{lowerByte}
 use Rattle.text.specs.declared.Letters.{Letters}
 use Rattle.text.specs.declared.Letters.the-variants.{AsGiven, Lowered}
 
+-- a text is its bytes, in order
 abbrev pub Text : Type 0
 Text = List ℕ
 
@@ -40,7 +41,7 @@ startsWith s r = leb (length r) (length s) && eqList r (take (length r) s)
 unfoldable pub endsWith : Text → Text → Bool
 endsWith s r = leb (length r) (length s) && eqList r (drop (length s - length r) s)
 
--- the constraint c covers the name n: c is empty, or n ends with c and the two are equal, or c begins with a dot, or a dot stands before that end
+-- the constraint c covers the name n: c is empty; or n ends with c, and either the two are equal, or c begins with a dot, or a dot stands before that end
 unfoldable pub covers : Text → Text → Bool
 covers c n =
     isEmpty c
