@@ -23,10 +23,7 @@ pub struct Range {
     pub to: u64,
 }
 
-pub const STRINGS: Section = Section {
-    count: 1,
-    size: 2,
-};
+pub const STRINGS: Section = Section { count: 1, size: 2 };
 
 // The word at a place, or 0 past the end.
 pub fn word(words: &[u64], at: usize) -> u64
@@ -97,7 +94,11 @@ pub fn string<'a>(words: &[u64], bytes: &'a [u8], s: StringNo) -> &'a [u8]
     ensures { λ r. ⌜ now r ≡ stringOf (now (words .entry)) (now (bytes .entry)) (s .0) ⌝ }
 {
     let n = s.0;
-    cut(bytes, field(words, STRINGS, n, 0), field(words, STRINGS, n, 1))
+    cut(
+        bytes,
+        field(words, STRINGS, n, 0),
+        field(words, STRINGS, n, 1),
+    )
 }
 
 // The rows of a range that its section has.
