@@ -1,0 +1,119 @@
+-- From what is found to the answer, for any layout whose lines are numbered from 5 on. Assumes nothing.
+use Prim.Native.Nat.{ℕ, zero, suc, _<_, _≤_}
+use native.Mathlib.Omega.{arith}
+use native.Mathlib.Decide.{decLt}
+use mathlib.Core.Path.{_≡_, refl, sym, ap, _∙_}
+use mathlib.Core.Logic.{_⊎_, inl, inr, ⊎-elim}
+use mathlib.Core.List.{List, List·Memᴰ}
+use mathlib.Core.Bool.{Bool, true, false, not, true≢false}
+use lib.Dec.{eqb}
+use Rattle.table.specs.Table.{word}
+use Rattle.table.specs.declared.Section.{Section}
+use Rattle.sound.specs.declared.Line.{Line}
+use Rattle.sound.specs.declared.Found.{Found}
+use Rattle.sound.specs.declared.Found.the-variants.{Clear, At}
+use Rattle.sound.specs.declared.Bundle.{Bundle}
+use Rattle.sound.specs.declared.Place.{Place}
+use Rattle.sound.specs.declared.Place.the-variants.{Nothing, Word, Certificate, Pair}
+use Rattle.sound.specs.declared.Checked.{Checked}
+use Rattle.sound.specs.declared.Checked.the-variants.{Sound, Refused}
+use Rattle.sound.specs.Answer.{Before, First, Verdict}
+use Rattle.sound.specs.Fault.{Layout, Fault, size, otherEdition, section, row, edition, misplaced, InLine}
+use Rattle.sound.specs.Search.{foundIn, foundSection, foundEach}
+use Rattle.sound.proofs.Earlier.{FirstOf, Some, all-first, first-same, LineFault, found-first, SectionFault, section-first}
+
+module _ (y : Layout) (w b : List ℕ) (from5 : (l : Line) → List·Memᴰ l (y .lines) → 5 ≤ l .number) where
+  -- ---- the faults by stage
+  abbrev Sections : ℕ → ℕ → Type 0
+  Sections n p = (s : Section) × List·Memᴰ s (y .sections) × SectionFault (y .header) w s n p
+
+  abbrev Lines : ℕ → ℕ → Type 0
+  Lines n p = (l : Line) × List·Memᴰ l (y .lines) × LineFault w b l n p
+
+  sections-first : FirstOf Sections (foundEach (foundSection (y .header) w) Clear (y .sections))
+  sections-first = first-same (λ n p. ⊥ ⊎ Sections n p) Sections (λ n p. ⊎-elim absurd (λ h. h)) (λ n p h. inr h) (foundEach (foundSection (y .header) w) Clear (y .sections)) (all-first (SectionFault (y .header) w) (foundSection (y .header) w) (section-first (y .header) w) (λ n p. ⊥) Clear (y .sections) (λ n p h. h))
+
+  lines-first : FirstOf Lines (foundEach (foundIn w b) Clear (y .lines))
+  lines-first = first-same (λ n p. ⊥ ⊎ Lines n p) Lines (λ n p. ⊎-elim absurd (λ h. h)) (λ n p h. inr h) (foundEach (foundIn w b) Clear (y .lines)) (all-first (LineFault w b) (foundIn w b) (found-first w b) (λ n p. ⊥) Clear (y .lines) (λ n p h. h))
+
+  -- what a fault is, from each stage on
+  stage4 : y .large ≡ false → not (eqb (word w 0) edition) ≡ false → (n p : ℕ) → Fault y w b n p → Sections n p ⊎ Lines n p
+  stage4 g e n p (size h k t) = absurd (true≢false (sym t ∙ g))
+  stage4 g e n p (otherEdition h k t) = absurd (true≢false (sym t ∙ e))
+  stage4 g e n p (section s m h k t) = inl (s, m, (h, k, t))
+  stage4 g e n p (row l m h t) = inr (l, m, (h, t))
+
+  -- ---- each answer
+  pub too-large : y .large ≡ true → First (Fault y w b) 2 0
+  too-large t = record { due = size refl refl t; before = λ n p o f. low n p o f } where
+    low : (n p : ℕ) → Before n p 2 0 → Fault y w b n p → ⊥
+    low n p o (size h k t) = ⊎-elim (λ a. omega arith) (λ a. omega (arith, a .1)) o
+    low n p o (otherEdition h k t) = ⊎-elim (λ a. omega arith) (λ a. omega (arith, a .1)) o
+    low n p o (section s m h k t) = ⊎-elim (λ a. omega arith) (λ a. omega (arith, a .1)) o
+    low n p o (row l m h t) = ⊎-elim (λ a. omega (arith, from5 l m)) (λ a. omega (arith, a .1)) o
+
+  module _ (g : y .large ≡ false) where
+    pub other-edition : not (eqb (word w 0) edition) ≡ true → First (Fault y w b) 3 0
+    other-edition t = record { due = otherEdition refl refl t; before = λ n p o f. low n p o f } where
+      low : (n p : ℕ) → Before n p 3 0 → Fault y w b n p → ⊥
+      low n p o (size h k t) = absurd (true≢false (sym t ∙ g))
+      low n p o (otherEdition h k t) = ⊎-elim (λ a. omega arith) (λ a. omega (arith, a .1)) o
+      low n p o (section s m h k t) = ⊎-elim (λ a. omega arith) (λ a. omega (arith, a .1)) o
+      low n p o (row l m h t) = ⊎-elim (λ a. omega (arith, from5 l m)) (λ a. omega (arith, a .1)) o
+
+    module _ (e : not (eqb (word w 0) edition) ≡ false) where
+      pub misplaced-first : (n p : ℕ) → foundEach (foundSection (y .header) w) Clear (y .sections) ≡ At n p → First (Fault y w b) n p
+      misplaced-first n p q =
+          let s : First Sections n p = rw q at sections-first in
+          let (a, m, (f, k, t)) = s .due in
+          record { due = section a m f k t; before = λ i c o h. ⊎-elim (s .before i c o) (λ l. ⊎-elim (λ x. omega (arith, f, l .2 .0, from5 (l .0) (l .1))) (λ x. omega (arith, f, x .0, l .2 .0, from5 (l .0) (l .1))) o) (stage4 g e i c h) }
+
+      module _ (c : foundEach (foundSection (y .header) w) Clear (y .sections) ≡ Clear) where
+        no-section : (n p : ℕ) → Sections n p → ⊥
+        no-section = rw c at sections-first
+
+        pub line-due : (n p : ℕ) → foundEach (foundIn w b) Clear (y .lines) ≡ At n p → First (Fault y w b) n p
+        line-due n p q =
+            let s : First Lines n p = rw q at lines-first in
+            let (l, m, (f, t)) = s .due in
+            record { due = row l m f t; before = λ i k o h. ⊎-elim (no-section i k) (s .before i k o) (stage4 g e i k h) }
+
+        pub all-sound : foundEach (foundIn w b) Clear (y .lines) ≡ Clear → (n p : ℕ) → Fault y w b n p → ⊥
+        all-sound q n p h =
+            let s : (n p : ℕ) → Lines n p → ⊥ = rw q at lines-first in
+            ⊎-elim (no-section n p) (s n p) (stage4 g e n p h)
+
+        -- each section lies in the words
+        pub placed : (s : Section) → List·Memᴰ s (y .sections) → misplaced (y .header) w s ≡ false
+        placed s m = go (misplaced (y .header) w s) refl where
+          go : (t : Bool) → misplaced (y .header) w s ≡ t → t ≡ false
+          go true h = absurd (no-section 4 (s .count) (s, m, (refl, refl, h)))
+          go false h = refl
+
+-- ---- any two answers that the faults allow are equal
+three : (a b : ℕ) → (a < b) ⊎ ((a ≡ b) ⊎ (b < a))
+three a b = elim (decLt a b) [ yes l ↦ inl l | no n ↦ elim (decLt b a) [ yes g ↦ inr (inr g) | no m ↦ inr (inl (omega arith)) ] ]
+
+module _ (F : ℕ → ℕ → Type 0) (k : Bundle) where
+  same-first : (n p m q : ℕ) → First F n p → First F m q → (n ≡ m) × (p ≡ q)
+  same-first n p m q a b =
+      ⊎-elim (λ l. absurd (b .before n p (inl l) (a .due)))
+      (⊎-elim
+      (λ e. ⊎-elim (λ l. absurd (b .before n p (inr (e, l)) (a .due))) (⊎-elim (λ d. (e, d)) (λ l. absurd (a .before m q (inr (sym e, l)) (b .due)))) (three p q))
+      (λ l. absurd (a .before m q (inl l) (b .due))))
+      (three n m)
+
+  pub one-verdict : (r s : Checked) → Verdict F k r → Verdict F k s → r ≡ s
+  one-verdict Sound Sound a b = refl
+  one-verdict Sound (Refused n i Nothing) a b = absurd b
+  one-verdict Sound (Refused n i (Word p)) a b = absurd (a n p (b .1 .due))
+  one-verdict Sound (Refused n i (Certificate x)) a b = absurd b
+  one-verdict Sound (Refused n i (Pair x z)) a b = absurd b
+  one-verdict (Refused n i Nothing) s a b = absurd a
+  one-verdict (Refused n i (Certificate x)) s a b = absurd a
+  one-verdict (Refused n i (Pair x z)) s a b = absurd a
+  one-verdict (Refused n i (Word p)) Sound a b = absurd (b n p (a .1 .due))
+  one-verdict (Refused n i (Word p)) (Refused m j Nothing) a b = absurd b
+  one-verdict (Refused n i (Word p)) (Refused m j (Word q)) a b = let (e, d) = same-first n p m q (a .1) (b .1) in let f : i ≡ j = a .0 ∙ sym (b .0) in cc
+  one-verdict (Refused n i (Word p)) (Refused m j (Certificate x)) a b = absurd b
+  one-verdict (Refused n i (Word p)) (Refused m j (Pair x z)) a b = absurd b

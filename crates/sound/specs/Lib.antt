@@ -1,0 +1,5 @@
+pub mod Answer
+pub mod Fault
+pub mod Search
+pub mod Tables
+pub mod Wrong
