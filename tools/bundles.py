@@ -311,7 +311,7 @@ def certificate(*groups):
     return [given.get(word, 0) for word in range(C.row_words)]
 
 
-# The strings that the leaf names come first. The address has bytes over 127.
+# The strings that the leaf names come first. The signature and the address have bytes over 127.
 CHAIN_TEXTS = {
     "host": b"a.com",
     "leaf fingerprint": b"F0",
@@ -482,7 +482,7 @@ def count(bundle, section):
 
 
 def shown(value):
-    return str(value) if value < 2**63 else f"2^64-{WORD - value}"
+    return f"2^64-{WORD - value}" if WORD - value < 100 else str(value)
 
 
 def limit_cases(name, bundle, at, highest, number):

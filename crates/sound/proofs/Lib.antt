@@ -1,3 +1,3 @@
-pub mod Earlier
+pub mod Order
 pub mod Reasons
 pub mod Verdicts

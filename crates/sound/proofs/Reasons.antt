@@ -41,6 +41,7 @@ module _ (w : List ℕ) (q : ℕ) {k : ℕ} (e : k ≡ word w q) where
   name-text h t = t ∙ rw (← e) (⊎-elim first second h) where
     first : k ≡ 0 → noString w (q + 1) ≡ (((eqb k 0 || eqb k 2) && noString w (q + 1)) || (eqb k 1 && noRange w rdns (q + 1)))
     first z = rw z (sym (or-false (noString w (q + 1))))
+
     second : k ≡ 2 → noString w (q + 1) ≡ (((eqb k 0 || eqb k 2) && noString w (q + 1)) || (eqb k 1 && noRange w rdns (q + 1)))
     second z = rw z (sym (or-false (noString w (q + 1))))
 
@@ -66,4 +67,3 @@ no-optional-string w b p e h = rw (← e, h) refl
 pub optional-string : (w b : List ℕ) (p : ℕ) {n : ℕ} {r : Bool} → n ≡ word w p → (n ≡ 0 → ⊥) → r ≡ highString w b (n - 1) → r ≡ (there w p && highString w b (word w p - 1))
 unfolding there
 optional-string w b p e h t = t ∙ rw (← e, ne-eqb _ 0 h) refl
-

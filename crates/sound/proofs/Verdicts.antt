@@ -20,7 +20,7 @@ use Rattle.sound.specs.declared.Checked.the-variants.{Sound, Refused}
 use Rattle.sound.specs.Answer.{Before, First, Verdict}
 use Rattle.sound.specs.Fault.{Layout, Fault, size, otherEdition, section, row, edition, misplaced, InLine}
 use Rattle.sound.specs.Search.{foundIn, foundSection, foundEach}
-use Rattle.sound.proofs.Earlier.{FirstOf, Some, all-first, first-same, LineFault, found-first, SectionFault, section-first}
+use Rattle.sound.proofs.Order.{FirstOf, Some, all-first, first-same, LineFault, found-first, SectionFault, section-first}
 
 module _ (y : Layout) (w b : List ℕ) (from5 : (l : Line) → List·Memᴰ l (y .lines) → 5 ≤ l .number) where
   -- ---- the faults by stage

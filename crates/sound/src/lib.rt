@@ -3,13 +3,15 @@ mod tables;
 
 ghost use mathlib.Core.Path.{_≡_};
 ghost use Prim.Native.Nat.{_-_, _≤_};
-ghost use mathlib.Core.Bool.{_&&_};
-ghost use lib.Dec.{eqb};
+ghost use mathlib.Core.Bool.{_&&_, _||_};
+ghost use lib.Dec.{eqb, ltb};
 ghost use lib.ListN.{length};
 ghost use Rattle.table.specs.Table.{word as wordOf};
+ghost use Rattle.sound.specs.Fault.{rowsOf, rowAt, misplaced, Fits};
+ghost use Rattle.sound.specs.Search.{earlierOf, foundSection, firstRow, foundIn};
 ghost use Rattle.sound.specs.Wrong.{noString, noOptional, noRange, over, there, highString, stringOut, nameOut, somePart, extensionsWrong, wrong};
-
 use model::chain::RDNS;
+use model::policy::ENTRIES;
 use table::CertPos;
 use table::STRINGS;
 use table::Section;
@@ -222,4 +224,134 @@ fn is_wrong(words: &[u64], bytes: &[u8], t: Test, q: usize, j: u8) -> bool
         Test::OptionalHigh => optional_high(words, bytes, p),
         Test::NotZero => there(words, p),
     }
+}
+
+// ---- the search for the first fault
+
+fn goes_before(n: u64, p: usize, m: u64, q: usize) -> bool
+    ensures { λ r. ⌜ r ≡ (ltb n m || (eqb n m && ltb p q)) ⌝ }
+{
+    (n < m) | ((n == m) & (p < q))
+}
+
+// The first of what was found so far and refusal n at the word p.
+fn earlier(f: Found, n: u64, p: usize) -> Found
+    ensures { λ r. ⌜ r ≡ earlierOf f (Found.At n p) ⌝ }
+{
+    match f {
+        Found::Clear => Found::At(n, p),
+        Found::At(m, q) => {
+            if goes_before(n, p, m, q) {
+                Found::At(n, p)
+            } else {
+                Found::At(m, q)
+            }
+        }
+    }
+}
+
+// Whether a section begins in the header or ends past the words, by a division, which can't wrap.
+fn is_misplaced(words: &[u64], header: usize, s: Section) -> bool
+    ensures { λ r. ⌜ r ≡ misplaced header (now (words .entry)) s ⌝ }
+{
+    let total = words.len() as u64;
+    let at = table::offset(words, s);
+    let size = s.size;
+    if at < header as u64 {
+        return true;
+    }
+    if total < at {
+        return true;
+    }
+    if size == 0 {
+        return false;
+    }
+    (total - at) / size < table::count(words, s)
+}
+
+fn with_section(words: &[u64], header: usize, f: Found, s: Section) -> Found
+    ensures { λ r. ⌜ r ≡ earlierOf f (foundSection header (now (words .entry)) s) ⌝ }
+{
+    let place = s.count;
+    if is_misplaced(words, header, s) {
+        return earlier(f, 4, place);
+    }
+    f
+}
+
+// The rows of L in the range at word p of the header.
+fn listed_rows(words: &[u64], p: u8) -> Rows
+    requires { ⌜ rowAt (rowsOf (now words) (Block.Listed p)) (rowsOf (now words) (Block.Listed p) .count) ≤ length (now words) ⌝ }
+    ensures { λ r. ⌜ r ≡ rowsOf (now (words .entry)) (Block.Listed p) ⌝ }
+{
+    let at = p as usize;
+    let r = model::chain::rows_in(words, ENTRIES, word(words, at), word(words, at + 1));
+    let from = r.from;
+    let to = r.to;
+    if from < to {
+        return Rows {
+            at: (table::offset(words, ENTRIES) + from) as usize,
+            size: 1,
+            count: (to - from) as usize,
+        };
+    }
+    Rows {
+        at: 0,
+        size: 0,
+        count: 0,
+    }
+}
+
+fn rows_of(words: &[u64], block: Block) -> Rows
+    requires { ⌜ rowAt (rowsOf (now words) block) (rowsOf (now words) block .count) ≤ length (now words) ⌝ }
+    ensures { λ r. ⌜ r ≡ rowsOf (now (words .entry)) block ⌝ }
+{
+    match block {
+        Block::Header => Rows {
+            at: 0,
+            size: 0,
+            count: 1,
+        },
+        Block::All(s) => Rows {
+            at: table::offset(words, s) as usize,
+            size: s.size as usize,
+            count: table::count(words, s) as usize,
+        },
+        Block::Listed(p) => listed_rows(words, p),
+    }
+}
+
+// The first wrong row of a line, or their number.
+fn first_row(words: &[u64], bytes: &[u8], l: Line, r: Rows) -> usize
+    requires { ⌜ rowAt r (r .count) ≤ length (now words) ⌝ }
+    ensures { λ i. ⌜ i ≡ firstRow (now (words .entry)) (now (bytes .entry)) l r ⌝ }
+{
+    let test = l.test;
+    let j = l.word;
+    let size = r.size;
+    let count = r.count;
+    let mut q = r.at;
+    let mut i = 0;
+    while i < count {
+        if is_wrong(words, bytes, test, q, j) {
+            return i;
+        }
+        q += size;
+        i += 1;
+    }
+    i
+}
+
+fn with_line(words: &[u64], bytes: &[u8], f: Found, l: Line) -> Found
+    requires { ⌜ Fits (now words) l ⌝ }
+    ensures { λ r. ⌜ r ≡ earlierOf f (foundIn (now (words .entry)) (now (bytes .entry)) l) ⌝ }
+{
+    let block = l.block;
+    let r = rows_of(words, block);
+    let i = first_row(words, bytes, l, r);
+    if i < r.count {
+        let q = r.at + r.size * i;
+        return earlier(f, l.number, q + l.word as usize);
+    }
+    f
 }

@@ -1,0 +1,58 @@
+use borrow.Author.Needs.{needs}
+use Rattle.sound.proofs.rows_of.Statement.{statement}
+use Rattle.sound.proofs.rows_of.Tie as tie
+use Rattle.sound.proofs.rows_of.Reads as reads
+use Rattle.sound.proofs.rows_of.Lts as lts
+use Rattle.sound.proofs.listed_rows.Reads as listed-rows-reads
+use Rattle.table.proofs.count.Reads as count-reads
+use Rattle.table.proofs.offset.Reads as offset-reads
+
+-- src/lib.rt:310:26
+enum-told : tie.Need-enum-told
+enum-told c = search needs
+
+-- src/lib.rt:315:20
+enum-known-block : tie.Need-enum-known-block
+enum-known-block c = search needs
+
+-- src/lib.rt:316:17
+offset-requires : tie.Need-offset-requires
+offset-requires c κs = search needs
+
+-- src/lib.rt:318:20
+count-requires : tie.Need-count-requires
+count-requires c κs = search needs
+
+-- src/lib.rt:320:23
+enum-known-block-2 : tie.Need-enum-known-block-2
+enum-known-block-2 c = search needs
+
+-- src/lib.rt:320:29
+listed-rows-requires : tie.Need-listed-rows-requires
+listed-rows-requires c κs = ?
+
+-- src/lib.rt:305:1
+returns : tie.Need-returns
+returns c = ?
+
+-- src/lib.rt:305:1
+returns-2 : tie.Need-returns-2
+returns-2 c = ?
+
+-- src/lib.rt:305:1
+returns-3 : tie.Need-returns-3
+returns-3 c = ?
+
+pub rows-of-spec : {M : Type 1} → statement M
+rows-of-spec =
+    tie.close
+    (tie.spec
+    enum-told
+    enum-known-block
+    offset-requires
+    count-requires
+    enum-known-block-2
+    listed-rows-requires
+    returns
+    returns-2
+    returns-3)
