@@ -1,3 +1,4 @@
 pub mod Order
 pub mod Reasons
+pub mod Steps
 pub mod Verdicts

@@ -7,8 +7,10 @@ ghost use mathlib.Core.Bool.{_&&_, _||_};
 ghost use lib.Dec.{eqb, ltb};
 ghost use lib.ListN.{length};
 ghost use Rattle.table.specs.Table.{word as wordOf};
-ghost use Rattle.sound.specs.Fault.{rowsOf, rowAt, misplaced, Fits};
-ghost use Rattle.sound.specs.Search.{earlierOf, foundSection, firstRow, foundIn};
+ghost use Rattle.sound.specs.Fault.{rowsOf, rowAt, misplaced, Fits, AllFit};
+ghost use Rattle.sound.specs.Search.{earlierOf, foundSection, firstRow, foundIn, foundEach};
+ghost use Rattle.sound.specs.Tables.{chainSections, chainLines};
+ghost use Rattle.model.specs.Sections.{chainHeader};
 ghost use Rattle.sound.specs.Wrong.{noString, noOptional, noRange, over, there, highString, stringOut, nameOut, somePart, extensionsWrong, wrong};
 use model::chain::RDNS;
 use model::policy::ENTRIES;
@@ -17,6 +19,9 @@ use table::STRINGS;
 use table::Section;
 use table::StringNo;
 use table::word;
+
+// The words of a chain bundle's header.
+const CHAIN_HEADER: usize = 16;
 
 // Which bundle an answer speaks of.
 pub enum Bundle {
@@ -352,6 +357,37 @@ fn with_line(words: &[u64], bytes: &[u8], f: Found, l: Line) -> Found
     if i < r.count {
         let q = r.at + r.size * i;
         return earlier(f, l.number, q + l.word as usize);
+    }
+    f
+}
+
+// The first misplaced section of a chain bundle.
+fn chain_misplaced(words: &[u64]) -> Found
+    ensures { λ r. ⌜ r ≡ foundEach (foundSection chainHeader (now (words .entry))) Found.Clear chainSections ⌝ }
+{
+    let sections = tables::chain_sections();
+    let mut f = Found::Clear;
+    let mut k = 0;
+    while k < 6 {
+        let s = sections[k];
+        f = with_section(words, CHAIN_HEADER, f, s);
+        k += 1;
+    }
+    f
+}
+
+// The first wrong word of a chain bundle's rows.
+fn chain_wrong(words: &[u64], bytes: &[u8]) -> Found
+    requires { ⌜ AllFit (now words) chainLines ⌝ }
+    ensures { λ r. ⌜ r ≡ foundEach (foundIn (now (words .entry)) (now (bytes .entry))) Found.Clear chainLines ⌝ }
+{
+    let lines = tables::chain_lines();
+    let mut f = Found::Clear;
+    let mut k = 0;
+    while k < 43 {
+        let l = lines[k];
+        f = with_line(words, bytes, f, l);
+        k += 1;
     }
     f
 }

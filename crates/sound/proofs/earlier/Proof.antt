@@ -1,3 +1,4 @@
+use Rattle.sound.proofs.Steps.{earlier-clear, earlier-yes, earlier-no}
 use borrow.Author.Needs.{needs}
 use Rattle.sound.proofs.earlier.Statement.{statement}
 use Rattle.sound.proofs.earlier.Tie as tie
@@ -19,15 +20,15 @@ goes-before-requires c κs = search needs
 
 -- src/lib.rt:238:1
 returns : tie.Need-returns
-returns c = ?
+returns c = earlier-clear _ _ _ (c .enum-told .given .1)
 
 -- src/lib.rt:238:1
 returns-2 : tie.Need-returns-2
-returns-2 c = ?
+returns-2 c = earlier-yes _ _ _ _ _ (c .before .before .before .f .given .1) (c .before .goes-before .ensures) (c .if1 .taken)
 
 -- src/lib.rt:238:1
 returns-3 : tie.Need-returns-3
-returns-3 c = ?
+returns-3 c = earlier-no _ _ _ _ _ (c .before .before .before .f .given .1) (c .before .goes-before .ensures) (c .if1 .left)
 
 pub earlier-spec : {M : Type 1} → statement M
 earlier-spec =

@@ -1,3 +1,13 @@
+use Rattle.sound.specs.Search.{firstRow}
+use Rattle.sound.proofs.Steps.{row-first, row-next, row-fits, at-row}
+use borrow.Author.Needs.{needs}
+use Prim.Native.Nat.{ℕ, _+_, _*_, _-_, _≤_}
+use native.Mathlib.Omega.{arith}
+use mathlib.Core.Path.{_≡_, refl, sym, _∙_}
+use lib.ListN.{length}
+use Rattle.laws.specs.Lists.{least}
+use Rattle.laws.proofs.Loops.{least-here, least-next, least-none}
+use Rattle.sound.specs.Wrong.{wrong}
 use Rattle.sound.proofs.first_row.Statement.{statement}
 use Rattle.sound.proofs.first_row.Tie as tie
 use Rattle.sound.proofs.first_row.Reads as reads
@@ -5,42 +15,44 @@ use Rattle.sound.proofs.first_row.Lts as lts
 use Rattle.sound.proofs.is_wrong.Reads as is-wrong-reads
 
 abbrev Inv-loop : tie.InvT-loop
-Inv-loop words bytes test j size count q₀ i₀ q i = ?
+Inv-loop words bytes test j size count q₀ i₀ q i = (q ≡ q₀ + size * i) × (i ≤ count) × (q₀ + size * count ≤ length words) × (least (λ k. wrong test words bytes (q₀ + size * k) j) 0 count ≡ least (λ k. wrong test words bytes (q₀ + size * k) j) i count)
 
 abbrev μ-loop : tie.MeasureT-loop
-μ-loop words bytes test j size count q₀ i₀ q i = ?
+μ-loop words bytes test j size count q₀ i₀ q i = count - i
 
 -- src/lib.rt:335:5
 loop-holds : tie.Need-loop-holds Inv-loop μ-loop
-loop-holds c = ?
+loop-holds c = (row-first _ _, omega arith, (c .before .before .pre), refl)
 
 -- src/lib.rt:336:12
 is-wrong-requires : tie.Need-is-wrong-requires Inv-loop μ-loop
-is-wrong-requires c κs = ?
+is-wrong-requires c κs = omega (arith, (c .before .loop .inv .0), row-fits _ _ _ _ _ (c .loop-test .taken) (c .before .loop .inv .2))
 
 -- src/lib.rt:337:13
 returns : tie.Need-returns Inv-loop μ-loop
-returns c = ?
+unfolding firstRow
+returns c = let a = c .before .before .before .before .before .before .args in least-here _ _ _ (c .before .before .loop-test .taken) (at-row (a .l .test) (a .words .now) (a .bytes .now) (a .l .word) _ _ (c .before .before .before .loop .inv .0) (c .before .is-wrong .ensures)) (c .if1 .taken) (c .before .before .before .loop .inv .3)
 
 -- src/lib.rt:339:9
 add-q : tie.Need-add-q Inv-loop μ-loop
-add-q c = ?
+add-q c = omega (arith, (c .before .before .before .loop .inv .0), row-fits _ _ _ _ _ (c .before .before .loop-test .taken) (c .before .before .before .loop .inv .2))
 
 -- src/lib.rt:340:9
 add-i : tie.Need-add-i Inv-loop μ-loop
-add-i c = ?
+add-i c = search needs
 
 -- src/lib.rt:335:5
 loop-less : tie.Need-loop-less Inv-loop μ-loop
-loop-less c = ?
+loop-less c = search needs
 
 -- src/lib.rt:335:5
 loop-again : tie.Need-loop-again Inv-loop μ-loop
-loop-again c = ?
+loop-again c = let a = c .before .before .before .before .before .before .args in (row-next _ _ _ (c .before .before .before .loop .inv .0), omega arith, (c .before .before .before .loop .inv .2), least-next _ _ _ (c .before .before .loop-test .taken) (at-row (a .l .test) (a .words .now) (a .bytes .now) (a .l .word) _ _ (c .before .before .before .loop .inv .0) (c .before .is-wrong .ensures)) (c .if1 .left) (c .before .before .before .loop .inv .3))
 
 -- src/lib.rt:325:1
 returns-2 : tie.Need-returns-2 Inv-loop μ-loop
-returns-2 c = ?
+unfolding firstRow
+returns-2 c = least-none _ _ _ (c .loop-test .left) (c .before .loop .inv .3)
 
 pub first-row-spec : {M : Type 1} → statement M
 first-row-spec =

@@ -1,3 +1,8 @@
+use native.Mathlib.Omega.{arith}
+use mathlib.Core.Path.{ap₂, _∙_}
+use Rattle.model.specs.Sections.{entries}
+use Rattle.model.specs.Decode.{rowsIn}
+use Rattle.sound.proofs.Steps.{listed-fits, listed-some, listed-none}
 use borrow.Author.Needs.{needs}
 use Rattle.sound.proofs.listed_rows.Statement.{statement}
 use Rattle.sound.proofs.listed_rows.Tie as tie
@@ -29,7 +34,7 @@ offset-requires c κs = search needs
 
 -- src/lib.rt:293:18
 add-t14 : tie.Need-add-t14
-add-t14 c = ?
+add-t14 c = omega (arith, (c .offset .ensures), listed-fits _ _ (c .before .before .rows-in .ensures ∙ ap₂ (rowsIn _ entries) (c .before .before .before .before .word .ensures) (c .before .before .before .word2 .ensures)) (c .before .before .before .before .before .before .pre) (c .before .if1 .taken))
 
 -- src/lib.rt:295:21
 sub-t16 : tie.Need-sub-t16
@@ -37,11 +42,11 @@ sub-t16 c = search needs
 
 -- src/lib.rt:292:9
 returns : tie.Need-returns
-returns c = ?
+returns c = listed-some _ _ (c .before .before .rows-in .ensures ∙ ap₂ (rowsIn _ entries) (c .before .before .before .before .word .ensures) (c .before .before .before .word2 .ensures)) (c .offset .ensures) (c .before .if1 .taken)
 
 -- src/lib.rt:283:1
 returns-2 : tie.Need-returns-2
-returns-2 c = ?
+returns-2 c = listed-none _ _ (c .before .rows-in .ensures ∙ ap₂ (rowsIn _ entries) (c .before .before .before .word .ensures) (c .before .before .word2 .ensures)) (c .if1 .left)
 
 pub listed-rows-spec : {M : Type 1} → statement M
 listed-rows-spec =

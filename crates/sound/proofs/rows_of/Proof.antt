@@ -1,3 +1,4 @@
+use Rattle.sound.proofs.Steps.{rows-header, rows-section, rows-listed, listed-need}
 use borrow.Author.Needs.{needs}
 use Rattle.sound.proofs.rows_of.Statement.{statement}
 use Rattle.sound.proofs.rows_of.Tie as tie
@@ -29,19 +30,19 @@ enum-known-block-2 c = search needs
 
 -- src/lib.rt:320:29
 listed-rows-requires : tie.Need-listed-rows-requires
-listed-rows-requires c κs = ?
+listed-rows-requires c κs = listed-need _ _ _ (c .before .block2 .given .1) (c .before .before .before .before .pre)
 
 -- src/lib.rt:305:1
 returns : tie.Need-returns
-returns c = ?
+returns c = rows-header _ _ (c .enum-told .given .1)
 
 -- src/lib.rt:305:1
 returns-2 : tie.Need-returns-2
-returns-2 c = ?
+returns-2 c = rows-section _ _ _ (c .before .before .before .block .given .1) (c .before .offset .ensures) (c .count .ensures)
 
 -- src/lib.rt:305:1
 returns-3 : tie.Need-returns-3
-returns-3 c = ?
+returns-3 c = rows-listed _ _ _ (c .before .before .block2 .given .1) (c .listed-rows .ensures)
 
 pub rows-of-spec : {M : Type 1} → statement M
 rows-of-spec =

@@ -1,3 +1,4 @@
+use Rattle.sound.proofs.Steps.{section-bad, section-good}
 use borrow.Author.Needs.{needs}
 use Rattle.sound.proofs.with_section.Statement.{statement}
 use Rattle.sound.proofs.with_section.Tie as tie
@@ -16,11 +17,11 @@ earlier-requires c κs = search needs
 
 -- src/lib.rt:277:9
 returns : tie.Need-returns
-returns c = ?
+returns c = section-bad _ _ _ (c .before .before .before .before .args .f) (c .before .before .is-misplaced .ensures) (c .before .if1 .taken) (c .earlier .ensures)
 
 -- src/lib.rt:272:1
 returns-2 : tie.Need-returns-2
-returns-2 c = ?
+returns-2 c = section-good _ _ _ _ (c .before .is-misplaced .ensures) (c .if1 .left)
 
 pub with-section-spec : {M : Type 1} → statement M
 with-section-spec = tie.close (tie.spec is-misplaced-requires earlier-requires returns returns-2)

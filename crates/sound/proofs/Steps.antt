@@ -1,0 +1,161 @@
+-- The search, step by step, as the code makes it. Assumes nothing.
+use Prim.Native.Nat.{ℕ, zero, suc, _+_, _-_, _*_, _/_, _≤_, _<_}
+use native.Mathlib.Omega.{arith}
+use native.Mathlib.Decide.{decLt}
+use native.Mathlib.Nat.{mul-le-mul-left, zero-mul, mul-zero, mul-suc, add-zero}
+use native.Mathlib.Numerals.{add-one}
+use mathlib.Core.Path.{_≡_, refl, sym, ap, _∙_}
+use mathlib.Core.List.{List, [], _∷_}
+use mathlib.Core.Bool.{Bool, true, false, _&&_, _||_, or-true}
+use lib.Dec.{eqb, ltb}
+use lib.ListN.{length, getD, drop, drop-of-length-le}
+use lib.Seq.{drop-cons}
+use borrow.Author.Tests.{lt-ltb, le-ltb}
+use Rattle.laws.specs.Lists.{pick, least}
+use Rattle.laws.proofs.Tests.{pick-true, pick-false}
+use Rattle.table.specs.Table.{word, countOf, offsetOf}
+use Rattle.table.specs.declared.Section.{Section}
+use Rattle.table.specs.declared.Range.{Range}
+use Rattle.table.proofs.Laws.{ends-past, ends-inside}
+use Rattle.model.specs.Sections.{entries}
+use Rattle.model.specs.Decode.{rowsIn}
+use Rattle.sound.specs.declared.Found.{Found}
+use Rattle.sound.specs.declared.Found.the-variants.{Clear, At}
+use Rattle.sound.specs.declared.Block.{Block}
+use Rattle.sound.specs.declared.Block.the-variants.{Header, All, Listed}
+use Rattle.sound.specs.declared.Rows.{Rows}
+use Rattle.sound.specs.declared.Test.{Test}
+use Rattle.sound.specs.declared.Line.{Line}
+use Rattle.sound.specs.Fault.{noRows, rangeRows, rowsOf, rowAt, misplaced, Fits, AllFit}
+use Rattle.sound.specs.Search.{earlierOf, foundSection, firstRow, foundAt, foundIn, foundEach}
+use Rattle.sound.specs.Wrong.{wrong}
+
+-- ---- the earlier of two faults
+pub earlier-none : (f : Found) → f ≡ earlierOf f Clear
+earlier-none Clear = refl
+earlier-none (At n p) = refl
+
+module _ (f : Found) (n p : ℕ) where
+  pub earlier-clear : f ≡ Clear → At n p ≡ earlierOf f (At n p)
+  earlier-clear e = rw e refl
+
+  module _ (m q : ℕ) (e : f ≡ At m q) {r : Bool} (t : r ≡ (ltb n m || (eqb n m && ltb p q))) where
+    pub earlier-yes : r ≡ true → At n p ≡ earlierOf f (At n p)
+    earlier-yes y = rw (e, ← t, y) refl
+
+    pub earlier-no : r ≡ false → At m q ≡ earlierOf f (At n p)
+    earlier-no y = rw (e, ← t, y) refl
+
+-- ---- a section
+module _ (header : ℕ) (w : List ℕ) (s : Section) {at : ℕ} (e : at ≡ offsetOf w s) where
+  pub in-header : at < header → true ≡ misplaced header w s
+  unfolding misplaced
+  in-header h = rw (← e, lt-ltb at header h) refl
+
+  module _ (k : header ≤ at) where
+    pub past-words : length w < at → true ≡ misplaced header w s
+    unfolding misplaced
+    past-words h = rw (← e, le-ltb at header k, lt-ltb (length w) (at + s .size * countOf w s) (omega arith)) refl
+
+    module _ (l : at ≤ length w) where
+      pub no-words : s .size ≡ 0 → false ≡ misplaced header w s
+      unfolding misplaced
+      no-words z = rw (← e, le-ltb at header k, z, zero-mul, add-zero, le-ltb (length w) at l) refl
+
+      pub by-division : {n : ℕ} → (s .size ≡ 0 → ⊥) → n ≡ countOf w s → ltb ((length w - at) / s .size) n ≡ misplaced header w s
+      unfolding misplaced
+      by-division {n} z f = rw (← e, ← f, le-ltb at header k) (elim (decLt ((length w - at) / s .size) n) [
+        | yes h ↦ lt-ltb _ n h ∙ sym (lt-ltb (length w) (at + s .size * n) (ends-past (s .size) at n (length w) z l h))
+        | no h ↦ le-ltb ((length w - at) / s .size) n (omega arith) ∙ sym (le-ltb (length w) (at + s .size * n) (ends-inside (s .size) at n (length w) z l (omega arith)))
+      ])
+
+module _ (header : ℕ) (w : List ℕ) (s : Section) (f : Found) {m : Bool} (t : m ≡ misplaced header w s) where
+  pub section-bad : {r : Found} → m ≡ true → r ≡ earlierOf f (At 4 (s .count)) → r ≡ earlierOf f (foundSection header w s)
+  unfolding foundSection
+  section-bad y h = h ∙ rw (← t, y) refl
+
+  pub section-good : m ≡ false → f ≡ earlierOf f (foundSection header w s)
+  unfolding foundSection
+  section-good y = earlier-none f ∙ rw (← t, y) refl
+
+-- ---- the rows of a line
+module _ (w : List ℕ) (p : ℕ) {r : Range} (e : r ≡ rowsIn w entries (word w p) (word w (p + 1))) where
+  listed-is : rowsOf w (Listed p) ≡ rangeRows (offsetOf w entries) r
+  unfolding rowsOf
+  listed-is = rw e refl
+
+  pub listed-fits : rowAt (rowsOf w (Listed p)) (rowsOf w (Listed p) .count) ≤ length w → r .from < r .to → offsetOf w entries + r .from ≤ length w
+  listed-fits h l = let k = rw (listed-is, lt-ltb (r .from) (r .to) l) at h in omega arith
+
+  pub listed-some : {at : ℕ} → at ≡ offsetOf w entries → r .from < r .to → record { at = at + r .from; size = 1; count = r .to - r .from } ≡ rowsOf w (Listed p)
+  listed-some f l = rw (listed-is, lt-ltb (r .from) (r .to) l, f) refl
+
+  pub listed-none : r .to ≤ r .from → noRows ≡ rowsOf w (Listed p)
+  listed-none l = rw (listed-is, le-ltb (r .from) (r .to) l) refl
+
+module _ (w : List ℕ) (x : Block) where
+  pub rows-header : x ≡ Header → record { at = 0; size = 0; count = 1 } ≡ rowsOf w x
+  unfolding rowsOf
+  rows-header e = rw e refl
+
+  pub rows-section : (s : Section) {at n : ℕ} → x ≡ All s → at ≡ offsetOf w s → n ≡ countOf w s → record { at = at; size = s .size; count = n } ≡ rowsOf w x
+  unfolding rowsOf
+  rows-section s e f g = rw (e, f, g) refl
+
+  pub rows-listed : (p : ℕ) {r : Rows} → x ≡ Listed p → r ≡ rowsOf w (Listed p) → r ≡ rowsOf w x
+  rows-listed p e t = t ∙ ap (rowsOf w) (sym e)
+
+pub listed-need : (w : List ℕ) (x : Block) (p : ℕ) → x ≡ Listed p → rowAt (rowsOf w x) (rowsOf w x .count) ≤ length w → rowAt (rowsOf w (Listed p)) (rowsOf w (Listed p) .count) ≤ length w
+listed-need w x p e h = rw e at h
+
+-- the next row begins after this one
+pub row-first : (at size : ℕ) → at ≡ at + size * 0
+row-first at size = rw (mul-zero, add-zero) refl
+
+pub row-next : (at size i : ℕ) {q : ℕ} → q ≡ at + size * i → q + size ≡ at + size * (i + 1)
+row-next at size i e = rw (add-one, mul-suc) (omega arith)
+
+-- a row below the count ends no later than the last
+pub row-fits : (at size i count len : ℕ) → i < count → at + size * count ≤ len → at + size * i + size ≤ len
+row-fits at size i count len l h = omega (arith, row-next at size i refl, mul-le-mul-left {m = i + 1} {n = count} size (omega arith))
+
+pub fits-rows : (w : List ℕ) (l : Line) → Fits w l → rowAt (rowsOf w (l .block)) (rowsOf w (l .block) .count) ≤ length w
+unfolding Fits
+fits-rows w l h = h
+
+pub fits-as : (w : List ℕ) (l : Line) {r : Rows} → r ≡ rowsOf w (l .block) → Fits w l → rowAt r (r .count) ≤ length w
+unfolding Fits
+fits-as w l e h = rw e h
+
+-- what is asked of a row, by where it begins
+pub at-row : (t : Test) (w b : List ℕ) (j : ℕ) (q at : ℕ) {r : Bool} → q ≡ at → r ≡ wrong t w b q j → r ≡ wrong t w b at j
+at-row t w b j q at e h = h ∙ ap (λ (x : ℕ). wrong t w b x j) e
+
+-- ---- a line
+module _ (w b : List ℕ) (l : Line) (f : Found) {r : Rows} (e : r ≡ rowsOf w (l .block)) {i : ℕ} (t : i ≡ firstRow w b l r) where
+  pub line-found : {g : Found} → i < r .count → g ≡ earlierOf f (At (l .number) (rowAt r i + l .word)) → g ≡ earlierOf f (foundIn w b l)
+  unfolding foundIn foundAt
+  line-found h k = k ∙ rw (← e, ← t, lt-ltb i (r .count) h) refl
+
+  pub line-clear : r .count ≤ i → f ≡ earlierOf f (foundIn w b l)
+  unfolding foundIn foundAt
+  line-clear h = earlier-none f ∙ rw (← e, ← t, le-ltb i (r .count) h) refl
+
+-- ---- one more of a list of things to look at, and the end
+module _ {A : Type 0} (found : A → Found) (xs : List A) (d : A) (k : ℕ) (f : Found) {whole : Found} (w : whole ≡ foundEach found f (drop k xs)) where
+  pub each-more : {g : Found} (ys : List A) → k < length xs → ys ≡ xs → g ≡ earlierOf f (found (getD ys k d)) → whole ≡ foundEach found g (drop (k + 1) xs)
+  unfolding foundEach
+  each-more ys h e t = w ∙ rw (add-one, drop-cons xs k d h, t, e) refl
+
+  pub each-done : length xs ≤ k → f ≡ whole
+  unfolding foundEach
+  each-done h = sym (w ∙ rw (drop-of-length-le xs h) refl)
+
+-- each of a list of lines fits
+pub fits-at : (w : List ℕ) (ls : List Line) (d : Line) (k : ℕ) → AllFit w ls → k < length ls → Fits w (getD ls k d)
+fits-at w [] d k a h = absurd (omega arith)
+fits-at w (l ∷ ls) d zero a h = a .0
+fits-at w (l ∷ ls) d (suc k) a h = fits-at w ls d k (a .1) (omega arith)
+
+pub fits-of : (w : List ℕ) (ls : List Line) (d : Line) (k : ℕ) (xs : List Line) → xs ≡ ls → AllFit w ls → k < length ls → Fits w (getD xs k d)
+fits-of w ls d k xs e a h = rw e (fits-at w ls d k a h)
