@@ -1,3 +1,4 @@
+pub mod Fitting
 pub mod Order
 pub mod Reasons
 pub mod Steps

@@ -117,3 +117,30 @@ module _ (F : ℕ → ℕ → Type 0) (k : Bundle) where
   one-verdict (Refused n i (Word p)) (Refused m j (Word q)) a b = let (e, d) = same-first n p m q (a .1) (b .1) in let f : i ≡ j = a .0 ∙ sym (b .0) in cc
   one-verdict (Refused n i (Word p)) (Refused m j (Certificate x)) a b = absurd b
   one-verdict (Refused n i (Word p)) (Refused m j (Pair x z)) a b = absurd b
+
+-- ---- the answers of a check, as the code gives them
+answered : (F : ℕ → ℕ → Type 0) (k : Bundle) (n p : ℕ) {r : Checked} → First F n p → r ≡ Refused n k (Word p) → Verdict F k r
+answered F k n p f e = rw e (refl, f)
+
+module _ (y : Layout) (w b : List ℕ) (from5 : (l : Line) → List·Memᴰ l (y .lines) → 5 ≤ l .number) (k : Bundle) {g : Bool} (large : g ≡ y .large) where
+  pub answer-size : {r : Checked} → g ≡ true → r ≡ Refused 2 k (Word 0) → Verdict (Fault y w b) k r
+  answer-size t e = answered (Fault y w b) k 2 0 (too-large y w b from5 (sym large ∙ t)) e
+
+  module _ (h : g ≡ false) {o : Bool} (other : o ≡ not (eqb (word w 0) edition)) where
+    pub answer-edition : {r : Checked} → o ≡ true → r ≡ Refused 3 k (Word 0) → Verdict (Fault y w b) k r
+    answer-edition t e = answered (Fault y w b) k 3 0 (other-edition y w b from5 (sym large ∙ h) (sym other ∙ t)) e
+
+    module _ (d : o ≡ false) {s : Found} (sections : s ≡ foundEach (foundSection (y .header) w) Clear (y .sections)) where
+      pub answer-section : (n p : ℕ) {r : Checked} → s ≡ At n p → r ≡ Refused n k (Word p) → Verdict (Fault y w b) k r
+      answer-section n p q e = answered (Fault y w b) k n p (misplaced-first y w b from5 (sym large ∙ h) (sym other ∙ d) n p (sym sections ∙ q)) e
+
+      module _ (c : s ≡ Clear) where
+        pub sections-placed : (x : Section) → List·Memᴰ x (y .sections) → misplaced (y .header) w x ≡ false
+        sections-placed = placed y w b from5 (sym large ∙ h) (sym other ∙ d) (sym sections ∙ c)
+
+        module _ {f : Found} (lines : f ≡ foundEach (foundIn w b) Clear (y .lines)) where
+          pub answer-line : (n p : ℕ) {r : Checked} → f ≡ At n p → r ≡ Refused n k (Word p) → Verdict (Fault y w b) k r
+          answer-line n p q e = answered (Fault y w b) k n p (line-due y w b from5 (sym large ∙ h) (sym other ∙ d) (sym sections ∙ c) n p (sym lines ∙ q)) e
+
+          pub answer-sound : f ≡ Clear → Verdict (Fault y w b) k Sound
+          answer-sound q = all-sound y w b from5 (sym large ∙ h) (sym other ∙ d) (sym sections ∙ c) (sym lines ∙ q)

@@ -3,15 +3,17 @@ mod tables;
 
 ghost use mathlib.Core.Path.{_≡_};
 ghost use Prim.Native.Nat.{_-_, _≤_};
-ghost use mathlib.Core.Bool.{_&&_, _||_};
+ghost use mathlib.Core.Bool.{not, _&&_, _||_};
 ghost use lib.Dec.{eqb, ltb};
 ghost use lib.ListN.{length};
-ghost use Rattle.table.specs.Table.{word as wordOf};
-ghost use Rattle.sound.specs.Fault.{rowsOf, rowAt, misplaced, Fits, AllFit};
+ghost use Rattle.table.specs.Table.{word as wordOf, countOf};
+ghost use Rattle.sound.specs.Answer.{ChainVerdict, PolicyVerdict};
+ghost use Rattle.sound.specs.Fault.{rowsOf, rowAt, misplaced, Fits, AllFit, tooLarge, mostCerts, edition};
 ghost use Rattle.sound.specs.Search.{earlierOf, foundSection, firstRow, foundIn, foundEach};
-ghost use Rattle.sound.specs.Tables.{chainSections, chainLines};
-ghost use Rattle.model.specs.Sections.{chainHeader};
+ghost use Rattle.sound.specs.Tables.{chainSections, chainLines, policySections, policyLines};
+ghost use Rattle.model.specs.Sections.{chainHeader, policyHeader, certs};
 ghost use Rattle.sound.specs.Wrong.{noString, noOptional, noRange, over, there, highString, stringOut, nameOut, somePart, extensionsWrong, wrong};
+use model::chain::CERTS;
 use model::chain::RDNS;
 use model::policy::ENTRIES;
 use table::CertPos;
@@ -22,6 +24,18 @@ use table::word;
 
 // The words of a chain bundle's header.
 const CHAIN_HEADER: usize = 16;
+
+// The words of a policy bundle's header.
+const POLICY_HEADER: usize = 23;
+
+const MOST_WORDS: usize = 8192;
+
+const MOST_BYTES: usize = 65536;
+
+const MOST_CERTS: u64 = 16;
+
+// The edition that is read.
+const EDITION: u64 = 1;
 
 // Which bundle an answer speaks of.
 pub enum Bundle {
@@ -390,4 +404,102 @@ fn chain_wrong(words: &[u64], bytes: &[u8]) -> Found
         k += 1;
     }
     f
+}
+
+// The same of a policy bundle.
+fn policy_misplaced(words: &[u64]) -> Found
+    ensures { λ r. ⌜ r ≡ foundEach (foundSection policyHeader (now (words .entry))) Found.Clear policySections ⌝ }
+{
+    let sections = tables::policy_sections();
+    let mut f = Found::Clear;
+    let mut k = 0;
+    while k < 2 {
+        let s = sections[k];
+        f = with_section(words, POLICY_HEADER, f, s);
+        k += 1;
+    }
+    f
+}
+
+fn policy_wrong(words: &[u64], bytes: &[u8]) -> Found
+    requires { ⌜ AllFit (now words) policyLines ⌝ }
+    ensures { λ r. ⌜ r ≡ foundEach (foundIn (now (words .entry)) (now (bytes .entry))) Found.Clear policyLines ⌝ }
+{
+    let lines = tables::policy_lines();
+    let mut f = Found::Clear;
+    let mut k = 0;
+    while k < 14 {
+        let l = lines[k];
+        f = with_line(words, bytes, f, l);
+        k += 1;
+    }
+    f
+}
+
+// ---- the answers
+
+fn is_too_large(words: &[u64], bytes: &[u8], header: usize) -> bool
+    ensures { λ r. ⌜ r ≡ tooLarge header (now (words .entry)) (now (bytes .entry)) ⌝ }
+{
+    (words.len() < header) | (MOST_WORDS < words.len()) | (MOST_BYTES < bytes.len())
+}
+
+fn has_too_many(words: &[u64]) -> bool
+    ensures { λ r. ⌜ r ≡ ltb mostCerts (countOf (now (words .entry)) certs) ⌝ }
+{
+    MOST_CERTS < table::count(words, CERTS)
+}
+
+fn has_other_edition(words: &[u64]) -> bool
+    ensures { λ r. ⌜ r ≡ not (eqb (wordOf (now (words .entry)) 0) edition) ⌝ }
+{
+    word(words, 0) != EDITION
+}
+
+fn refused(n: u64, bundle: Bundle, p: usize) -> Checked
+    ensures { λ r. ⌜ r ≡ Checked.Refused n bundle (Place.Word p) ⌝ }
+{
+    Checked::Refused(n, bundle, Place::Word(p))
+}
+
+// Whether a chain bundle is sound, and else the refusal: the lowest number, then the lowest word.
+pub fn check_chain(words: &[u64], bytes: &[u8]) -> Checked
+    ensures { λ r. ⌜ ChainVerdict (now (words .entry)) (now (bytes .entry)) r ⌝ }
+{
+    if is_too_large(words, bytes, CHAIN_HEADER) | has_too_many(words) {
+        return refused(2, Bundle::Chain, 0);
+    }
+    if has_other_edition(words) {
+        return refused(3, Bundle::Chain, 0);
+    }
+    let s = chain_misplaced(words);
+    if let Found::At(n, p) = s {
+        return refused(n, Bundle::Chain, p);
+    }
+    let f = chain_wrong(words, bytes);
+    match f {
+        Found::Clear => Checked::Sound,
+        Found::At(n, p) => refused(n, Bundle::Chain, p),
+    }
+}
+
+// Whether a policy bundle is sound, and else the refusal.
+pub fn check_policy(words: &[u64], bytes: &[u8]) -> Checked
+    ensures { λ r. ⌜ PolicyVerdict (now (words .entry)) (now (bytes .entry)) r ⌝ }
+{
+    if is_too_large(words, bytes, POLICY_HEADER) {
+        return refused(2, Bundle::Policy, 0);
+    }
+    if has_other_edition(words) {
+        return refused(3, Bundle::Policy, 0);
+    }
+    let s = policy_misplaced(words);
+    if let Found::At(n, p) = s {
+        return refused(n, Bundle::Policy, p);
+    }
+    let f = policy_wrong(words, bytes);
+    match f {
+        Found::Clear => Checked::Sound,
+        Found::At(n, p) => refused(n, Bundle::Policy, p),
+    }
 }
