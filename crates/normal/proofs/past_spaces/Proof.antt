@@ -7,9 +7,6 @@ use Rattle.laws.proofs.Loops.{least-here, least-next, least-none}
 use Rattle.normal.specs.Walk.{noSpaceAt}
 use Rattle.normal.proofs.past_spaces.Statement.{statement}
 use Rattle.normal.proofs.past_spaces.Tie as tie
-use Rattle.normal.proofs.past_spaces.Reads as reads
-use Rattle.normal.proofs.past_spaces.Lts as lts
-use Rattle.normal.proofs.is_no_space.Reads as is-no-space-reads
 
 abbrev Inv-loop : tie.InvT-loop
 Inv-loop table s i k₀ k = least (noSpaceAt s) i (length s) ≡ least (noSpaceAt s) k (length s)
@@ -17,37 +14,29 @@ Inv-loop table s i k₀ k = least (noSpaceAt s) i (length s) ≡ least (noSpaceA
 abbrev μ-loop : tie.MeasureT-loop
 μ-loop table s i k₀ k = length s - k
 
--- src/lib.rt:31:5
 loop-holds : tie.Need-loop-holds Inv-loop μ-loop
 loop-holds c = refl
 
--- src/lib.rt:32:31
 shared-slice-read-is-no-space : tie.Need-shared-slice-read-is-no-space Inv-loop μ-loop
 shared-slice-read-is-no-space c = search needs
 
--- src/lib.rt:32:12
 is-no-space-requires : tie.Need-is-no-space-requires Inv-loop μ-loop
 is-no-space-requires c κs = (c .before .before .before .before .pre)
 
--- src/lib.rt:33:13
 returns : tie.Need-returns Inv-loop μ-loop
 unfolding noSpaceAt
 returns c = least-here _ _ _ (c .before .before .before .loop-test .taken) (c .before .is-no-space .ensures) (c .if1 .taken) (c .before .before .before .before .loop .inv)
 
--- src/lib.rt:35:9
 add-k : tie.Need-add-k Inv-loop μ-loop
 add-k c = search needs
 
--- src/lib.rt:31:5
 loop-less : tie.Need-loop-less Inv-loop μ-loop
 loop-less c = search needs
 
--- src/lib.rt:31:5
 loop-again : tie.Need-loop-again Inv-loop μ-loop
 unfolding noSpaceAt
 loop-again c = least-next _ _ _ (c .before .before .before .loop-test .taken) (c .before .is-no-space .ensures) (c .if1 .left) (c .before .before .before .before .loop .inv)
 
--- src/lib.rt:26:1
 returns-2 : tie.Need-returns-2 Inv-loop μ-loop
 returns-2 c = least-none _ _ _ (c .loop-test .left) (c .before .loop .inv)
 

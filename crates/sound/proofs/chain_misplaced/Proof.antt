@@ -9,10 +9,6 @@ use Rattle.sound.specs.Tables.{chainSections}
 use Rattle.sound.proofs.Steps.{each-more, each-done}
 use Rattle.sound.proofs.chain_misplaced.Statement.{statement}
 use Rattle.sound.proofs.chain_misplaced.Tie as tie
-use Rattle.sound.proofs.chain_misplaced.Reads as reads
-use Rattle.sound.proofs.chain_misplaced.Lts as lts
-use Rattle.sound.proofs.tables.chain_sections.Reads as chain-sections-reads
-use Rattle.sound.proofs.with_section.Reads as with-section-reads
 
 abbrev Inv-loop : tie.InvT-loop
 Inv-loop words sections f₀ k₀ f k = foundEach (foundSection chainHeader words) Clear chainSections ≡ foundEach (foundSection chainHeader words) f (drop k chainSections)
@@ -20,39 +16,30 @@ Inv-loop words sections f₀ k₀ f k = foundEach (foundSection chainHeader word
 abbrev μ-loop : tie.MeasureT-loop
 μ-loop words sections f₀ k₀ f k = 6 - k
 
--- src/lib.rt:368:20
 chain-sections-requires : tie.Need-chain-sections-requires Inv-loop μ-loop
 chain-sections-requires c κs = search needs
 
--- src/lib.rt:371:5
 loop-holds : tie.Need-loop-holds Inv-loop μ-loop
 loop-holds c = refl
 
--- src/lib.rt:372:17
 mul-s : tie.Need-mul-s Inv-loop μ-loop
 mul-s c = search needs
 
--- src/lib.rt:372:17
 array-copy-out-s : tie.Need-array-copy-out-s Inv-loop μ-loop
 array-copy-out-s c = search needs
 
--- src/lib.rt:373:9
 with-section-requires : tie.Need-with-section-requires Inv-loop μ-loop
 with-section-requires c κs = search needs
 
--- src/lib.rt:374:9
 add-k : tie.Need-add-k Inv-loop μ-loop
 add-k c = search needs
 
--- src/lib.rt:371:5
 loop-less : tie.Need-loop-less Inv-loop μ-loop
 loop-less c = search needs
 
--- src/lib.rt:371:5
 loop-again : tie.Need-loop-again Inv-loop μ-loop
 loop-again c = each-more (foundSection chainHeader _) chainSections (record { count = 0; size = 0 }) _ _ (c .before .before .before .loop .inv) _ (c .before .before .loop-test .taken) (c .before .before .before .before .chain-sections .ensures) (c .with-section .ensures)
 
--- src/lib.rt:365:1
 returns : tie.Need-returns Inv-loop μ-loop
 returns c = each-done (foundSection chainHeader _) chainSections (record { count = 0; size = 0 }) _ _ (c .before .loop .inv) (c .loop-test .left)
 

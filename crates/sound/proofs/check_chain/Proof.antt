@@ -8,58 +8,39 @@ use Rattle.sound.proofs.Verdicts.{answer-size, answer-edition, answer-s
 use borrow.Author.Needs.{needs}
 use Rattle.sound.proofs.check_chain.Statement.{statement}
 use Rattle.sound.proofs.check_chain.Tie as tie
-use Rattle.sound.proofs.check_chain.Reads as reads
-use Rattle.sound.proofs.check_chain.Lts as lts
-use Rattle.sound.proofs.chain_misplaced.Reads as chain-misplaced-reads
-use Rattle.sound.proofs.chain_wrong.Reads as chain-wrong-reads
-use Rattle.sound.proofs.has_other_edition.Reads as has-other-edition-reads
-use Rattle.sound.proofs.has_too_many.Reads as has-too-many-reads
-use Rattle.sound.proofs.is_too_large.Reads as is-too-large-reads
-use Rattle.sound.proofs.refused.Reads as refused-reads
 
--- src/lib.rt:469:8
 is-too-large-requires : tie.Need-is-too-large-requires
 is-too-large-requires c κs = search needs
 
--- src/lib.rt:469:51
 has-too-many-requires : tie.Need-has-too-many-requires
 has-too-many-requires c κs = search needs
 
--- src/lib.rt:470:9
 refused-requires : tie.Need-refused-requires
 refused-requires c κs = search needs
 
--- src/lib.rt:470:9
 returns : tie.Need-returns
 unfolding ChainVerdict
 returns c = answer-size (chainLayout _ _) _ _ chain-from5 Chain (ap₂ _||_ (c .before .before .before .is-too-large .ensures) (c .before .before .has-too-many .ensures)) (c .before .if1 .taken) (c .refused .ensures)
 
--- src/lib.rt:472:8
 has-other-edition-requires : tie.Need-has-other-edition-requires
 has-other-edition-requires c κs = search needs
 
--- src/lib.rt:473:9
 refused-requires-2 : tie.Need-refused-requires-2
 refused-requires-2 c κs = search needs
 
--- src/lib.rt:473:9
 returns-2 : tie.Need-returns-2
 unfolding ChainVerdict
 returns-2 c = answer-edition (chainLayout _ _) _ _ chain-from5 Chain (ap₂ _||_ (c .before .before .before .before .before .is-too-large .ensures) (c .before .before .before .before .has-too-many .ensures)) (c .before .before .before .if1 .left) (c .before .before .has-other-edition .ensures) (c .before .if2 .taken) (c .refused2 .ensures)
 
--- src/lib.rt:475:9
 chain-misplaced-requires : tie.Need-chain-misplaced-requires
 chain-misplaced-requires c κs = search needs
 
--- src/lib.rt:476:22
 enum-known-s : tie.Need-enum-known-s
 enum-known-s c = search needs
 
--- src/lib.rt:477:9
 refused-requires-3 : tie.Need-refused-requires-3
 refused-requires-3 c κs = search needs
 
--- src/lib.rt:477:9
 returns-3 : tie.Need-returns-3
 unfolding ChainVerdict
 returns-3 c = answer-section (chainLayout _ _) _ _ chain-from5 Chain (ap₂ _||_ (c .before .before .before .before .before .before .before .before .before .is-too-large .ensures) (c .before .before .before .before .before .before .before .before .has-too-many .ensures)) (c .before .before .before .before .before .before .before .if1 .left) (c .before .before .before .before .before .before .has-other-edition .ensures) (c .before .before .before .before .before .if2 .left) (c .before .before .before .before .chain-misplaced .ensures) _ _ (c .before .before .s .given .1) (c .refused3 .ensures)
@@ -67,28 +48,22 @@ returns-3 c = answer-section (chainLayout _ _) _ _ chain-from5 Chain (ap₂ _||_
 enum-told : tie.Need-enum-told
 enum-told c = search needs
 
--- src/lib.rt:479:9
 chain-wrong-requires : tie.Need-chain-wrong-requires
 chain-wrong-requires c κs = let a = c .before .before .before .before .before .before .before .before .before .before .args in chain-fits _ (sections-placed (chainLayout (a .words .now) (a .bytes .now)) (a .words .now) (a .bytes .now) chain-from5 Chain (ap₂ _||_ (c .before .before .before .before .before .before .before .is-too-large .ensures) (c .before .before .before .before .before .before .has-too-many .ensures)) (c .before .before .before .before .before .if1 .left) (c .before .before .before .before .has-other-edition .ensures) (c .before .before .before .if2 .left) (c .before .before .chain-misplaced .ensures) (c .enum-told .given .1))
 
--- src/lib.rt:481:25
 enum-told-2 : tie.Need-enum-told-2
 enum-told-2 c = search needs
 
--- src/lib.rt:482:19
 enum-known-f : tie.Need-enum-known-f
 enum-known-f c = search needs
 
--- src/lib.rt:482:28
 refused-requires-4 : tie.Need-refused-requires-4
 refused-requires-4 c κs = search needs
 
--- src/lib.rt:466:1
 returns-4 : tie.Need-returns-4
 unfolding ChainVerdict
 returns-4 c = answer-sound (chainLayout _ _) _ _ chain-from5 Chain (ap₂ _||_ (c .before .before .before .before .before .before .before .before .before .before .is-too-large .ensures) (c .before .before .before .before .before .before .before .before .before .has-too-many .ensures)) (c .before .before .before .before .before .before .before .before .if1 .left) (c .before .before .before .before .before .before .before .has-other-edition .ensures) (c .before .before .before .before .before .before .if2 .left) (c .before .before .before .before .before .chain-misplaced .ensures) (c .before .before .before .enum-told .given .1) (c .before .before .chain-wrong .ensures) (c .enum-told2 .given .1)
 
--- src/lib.rt:466:1
 returns-5 : tie.Need-returns-5
 unfolding ChainVerdict
 returns-5 c = answer-line (chainLayout _ _) _ _ chain-from5 Chain (ap₂ _||_ (c .before .before .before .before .before .before .before .before .before .before .before .before .is-too-large .ensures) (c .before .before .before .before .before .before .before .before .before .before .before .has-too-many .ensures)) (c .before .before .before .before .before .before .before .before .before .before .if1 .left) (c .before .before .before .before .before .before .before .before .before .has-other-edition .ensures) (c .before .before .before .before .before .before .before .before .if2 .left) (c .before .before .before .before .before .before .before .chain-misplaced .ensures) (c .before .before .before .before .before .enum-told .given .1) (c .before .before .before .before .chain-wrong .ensures) _ _ (c .before .before .f .given .1) (c .refused4 .ensures)

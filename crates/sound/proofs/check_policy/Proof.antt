@@ -6,53 +6,36 @@ use Rattle.sound.proofs.Verdicts.{answer-size, answer-edition, answer-s
 use borrow.Author.Needs.{needs}
 use Rattle.sound.proofs.check_policy.Statement.{statement}
 use Rattle.sound.proofs.check_policy.Tie as tie
-use Rattle.sound.proofs.check_policy.Reads as reads
-use Rattle.sound.proofs.check_policy.Lts as lts
-use Rattle.sound.proofs.has_other_edition.Reads as has-other-edition-reads
-use Rattle.sound.proofs.is_too_large.Reads as is-too-large-reads
-use Rattle.sound.proofs.policy_misplaced.Reads as policy-misplaced-reads
-use Rattle.sound.proofs.policy_wrong.Reads as policy-wrong-reads
-use Rattle.sound.proofs.refused.Reads as refused-reads
 
--- src/lib.rt:490:8
 is-too-large-requires : tie.Need-is-too-large-requires
 is-too-large-requires c κs = search needs
 
--- src/lib.rt:491:9
 refused-requires : tie.Need-refused-requires
 refused-requires c κs = search needs
 
--- src/lib.rt:491:9
 returns : tie.Need-returns
 unfolding PolicyVerdict
 returns c = answer-size (policyLayout _ _) _ _ policy-from5 Policy (c .before .before .is-too-large .ensures) (c .before .if1 .taken) (c .refused .ensures)
 
--- src/lib.rt:493:8
 has-other-edition-requires : tie.Need-has-other-edition-requires
 has-other-edition-requires c κs = search needs
 
--- src/lib.rt:494:9
 refused-requires-2 : tie.Need-refused-requires-2
 refused-requires-2 c κs = search needs
 
--- src/lib.rt:494:9
 returns-2 : tie.Need-returns-2
 unfolding PolicyVerdict
 returns-2 c = answer-edition (policyLayout _ _) _ _ policy-from5 Policy (c .before .before .before .before .is-too-large .ensures) (c .before .before .before .if1 .left) (c .before .before .has-other-edition .ensures) (c .before .if2 .taken) (c .refused2 .ensures)
 
--- src/lib.rt:496:9
 policy-misplaced-requires : tie.Need-policy-misplaced-requires
 policy-misplaced-requires c κs = search needs
 
--- src/lib.rt:497:22
 enum-known-s : tie.Need-enum-known-s
 enum-known-s c = search needs
 
--- src/lib.rt:498:9
 refused-requires-3 : tie.Need-refused-requires-3
 refused-requires-3 c κs = search needs
 
--- src/lib.rt:498:9
 returns-3 : tie.Need-returns-3
 unfolding PolicyVerdict
 returns-3 c = answer-section (policyLayout _ _) _ _ policy-from5 Policy (c .before .before .before .before .before .before .before .before .is-too-large .ensures) (c .before .before .before .before .before .before .before .if1 .left) (c .before .before .before .before .before .before .has-other-edition .ensures) (c .before .before .before .before .before .if2 .left) (c .before .before .before .before .policy-misplaced .ensures) _ _ (c .before .before .s .given .1) (c .refused3 .ensures)
@@ -60,28 +43,22 @@ returns-3 c = answer-section (policyLayout _ _) _ _ policy-from5 Policy (c .befo
 enum-told : tie.Need-enum-told
 enum-told c = search needs
 
--- src/lib.rt:500:9
 policy-wrong-requires : tie.Need-policy-wrong-requires
 policy-wrong-requires c κs = let a = c .before .before .before .before .before .before .before .before .before .args in policy-fits _ (sections-placed (policyLayout (a .words .now) (a .bytes .now)) (a .words .now) (a .bytes .now) policy-from5 Policy (c .before .before .before .before .before .before .is-too-large .ensures) (c .before .before .before .before .before .if1 .left) (c .before .before .before .before .has-other-edition .ensures) (c .before .before .before .if2 .left) (c .before .before .policy-misplaced .ensures) (c .enum-told .given .1))
 
--- src/lib.rt:502:25
 enum-told-2 : tie.Need-enum-told-2
 enum-told-2 c = search needs
 
--- src/lib.rt:503:19
 enum-known-f : tie.Need-enum-known-f
 enum-known-f c = search needs
 
--- src/lib.rt:503:28
 refused-requires-4 : tie.Need-refused-requires-4
 refused-requires-4 c κs = search needs
 
--- src/lib.rt:487:1
 returns-4 : tie.Need-returns-4
 unfolding PolicyVerdict
 returns-4 c = answer-sound (policyLayout _ _) _ _ policy-from5 Policy (c .before .before .before .before .before .before .before .before .before .is-too-large .ensures) (c .before .before .before .before .before .before .before .before .if1 .left) (c .before .before .before .before .before .before .before .has-other-edition .ensures) (c .before .before .before .before .before .before .if2 .left) (c .before .before .before .before .before .policy-misplaced .ensures) (c .before .before .before .enum-told .given .1) (c .before .before .policy-wrong .ensures) (c .enum-told2 .given .1)
 
--- src/lib.rt:487:1
 returns-5 : tie.Need-returns-5
 unfolding PolicyVerdict
 returns-5 c = answer-line (policyLayout _ _) _ _ policy-from5 Policy (c .before .before .before .before .before .before .before .before .before .before .before .is-too-large .ensures) (c .before .before .before .before .before .before .before .before .before .before .if1 .left) (c .before .before .before .before .before .before .before .before .before .has-other-edition .ensures) (c .before .before .before .before .before .before .before .before .if2 .left) (c .before .before .before .before .before .before .before .policy-misplaced .ensures) (c .before .before .before .before .before .enum-told .given .1) (c .before .before .before .before .policy-wrong .ensures) _ _ (c .before .before .f .given .1) (c .refused4 .ensures)

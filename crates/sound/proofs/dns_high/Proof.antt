@@ -2,28 +2,19 @@ use Rattle.sound.proofs.Reasons.{dns-other, dns-name}
 use borrow.Author.Needs.{needs}
 use Rattle.sound.proofs.dns_high.Statement.{statement}
 use Rattle.sound.proofs.dns_high.Tie as tie
-use Rattle.sound.proofs.dns_high.Reads as reads
-use Rattle.sound.proofs.dns_high.Lts as lts
-use Rattle.sound.proofs.high_string.Reads as high-string-reads
-use Rattle.table.proofs.word.Reads as word-reads
 
--- src/tests.rt:115:8
 word-requires : tie.Need-word-requires
 word-requires c κs = search needs
 
--- src/tests.rt:116:9
 returns : tie.Need-returns
 returns c = dns-other _ _ _ _ (c .before .word .ensures) (c .if1 .taken)
 
--- src/tests.rt:118:40
 word-requires-2 : tie.Need-word-requires-2
 word-requires-2 c κs = search needs
 
--- src/tests.rt:118:5
 high-string-requires : tie.Need-high-string-requires
 high-string-requires c κs = search needs
 
--- src/tests.rt:112:1
 returns-2 : tie.Need-returns-2
 returns-2 c = dns-name _ _ _ (c .before .before .before .word .ensures) (c .before .before .if1 .left) (c .before .word2 .ensures) (c .high-string .ensures)
 

@@ -2,31 +2,22 @@ use Rattle.sound.proofs.Steps.{earlier-clear, earlier-yes, earlier-no}
 use borrow.Author.Needs.{needs}
 use Rattle.sound.proofs.earlier.Statement.{statement}
 use Rattle.sound.proofs.earlier.Tie as tie
-use Rattle.sound.proofs.earlier.Reads as reads
-use Rattle.sound.proofs.earlier.Lts as lts
-use Rattle.sound.proofs.goes_before.Reads as goes-before-reads
 
--- src/lib.rt:242:25
 enum-told : tie.Need-enum-told
 enum-told c = search needs
 
--- src/lib.rt:243:19
 enum-known-f : tie.Need-enum-known-f
 enum-known-f c = search needs
 
--- src/lib.rt:244:16
 goes-before-requires : tie.Need-goes-before-requires
 goes-before-requires c κs = search needs
 
--- src/lib.rt:238:1
 returns : tie.Need-returns
 returns c = earlier-clear _ _ _ (c .enum-told .given .1)
 
--- src/lib.rt:238:1
 returns-2 : tie.Need-returns-2
 returns-2 c = earlier-yes _ _ _ _ _ (c .before .before .before .f .given .1) (c .before .goes-before .ensures) (c .if1 .taken)
 
--- src/lib.rt:238:1
 returns-3 : tie.Need-returns-3
 returns-3 c = earlier-no _ _ _ _ _ (c .before .before .before .f .given .1) (c .before .goes-before .ensures) (c .if1 .left)
 

@@ -10,9 +10,6 @@ use Rattle.laws.proofs.Loops.{least-here, least-next, least-none}
 use Rattle.sound.specs.Wrong.{wrong}
 use Rattle.sound.proofs.first_row.Statement.{statement}
 use Rattle.sound.proofs.first_row.Tie as tie
-use Rattle.sound.proofs.first_row.Reads as reads
-use Rattle.sound.proofs.first_row.Lts as lts
-use Rattle.sound.proofs.is_wrong.Reads as is-wrong-reads
 
 abbrev Inv-loop : tie.InvT-loop
 Inv-loop words bytes test j size count q₀ i₀ q i = (q ≡ q₀ + size * i) × (i ≤ count) × (q₀ + size * count ≤ length words) × (least (λ k. wrong test words bytes (q₀ + size * k) j) 0 count ≡ least (λ k. wrong test words bytes (q₀ + size * k) j) i count)
@@ -20,36 +17,28 @@ Inv-loop words bytes test j size count q₀ i₀ q i = (q ≡ q₀ + size * i) �
 abbrev μ-loop : tie.MeasureT-loop
 μ-loop words bytes test j size count q₀ i₀ q i = count - i
 
--- src/lib.rt:335:5
 loop-holds : tie.Need-loop-holds Inv-loop μ-loop
 loop-holds c = (row-first _ _, omega arith, (c .before .before .pre), refl)
 
--- src/lib.rt:336:12
 is-wrong-requires : tie.Need-is-wrong-requires Inv-loop μ-loop
 is-wrong-requires c κs = omega (arith, (c .before .loop .inv .0), row-fits _ _ _ _ _ (c .loop-test .taken) (c .before .loop .inv .2))
 
--- src/lib.rt:337:13
 returns : tie.Need-returns Inv-loop μ-loop
 unfolding firstRow
 returns c = let a = c .before .before .before .before .before .before .args in least-here _ _ _ (c .before .before .loop-test .taken) (at-row (a .l .test) (a .words .now) (a .bytes .now) (a .l .word) _ _ (c .before .before .before .loop .inv .0) (c .before .is-wrong .ensures)) (c .if1 .taken) (c .before .before .before .loop .inv .3)
 
--- src/lib.rt:339:9
 add-q : tie.Need-add-q Inv-loop μ-loop
 add-q c = omega (arith, (c .before .before .before .loop .inv .0), row-fits _ _ _ _ _ (c .before .before .loop-test .taken) (c .before .before .before .loop .inv .2))
 
--- src/lib.rt:340:9
 add-i : tie.Need-add-i Inv-loop μ-loop
 add-i c = search needs
 
--- src/lib.rt:335:5
 loop-less : tie.Need-loop-less Inv-loop μ-loop
 loop-less c = search needs
 
--- src/lib.rt:335:5
 loop-again : tie.Need-loop-again Inv-loop μ-loop
 loop-again c = let a = c .before .before .before .before .before .before .args in (row-next _ _ _ (c .before .before .before .loop .inv .0), omega arith, (c .before .before .before .loop .inv .2), least-next _ _ _ (c .before .before .loop-test .taken) (at-row (a .l .test) (a .words .now) (a .bytes .now) (a .l .word) _ _ (c .before .before .before .loop .inv .0) (c .before .is-wrong .ensures)) (c .if1 .left) (c .before .before .before .loop .inv .3))
 
--- src/lib.rt:325:1
 returns-2 : tie.Need-returns-2 Inv-loop μ-loop
 unfolding firstRow
 returns-2 c = least-none _ _ _ (c .loop-test .left) (c .before .loop .inv .3)

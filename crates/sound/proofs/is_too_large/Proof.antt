@@ -2,10 +2,7 @@ use mathlib.Core.Path.{refl}
 use Rattle.sound.specs.Fault.{tooLarge}
 use Rattle.sound.proofs.is_too_large.Statement.{statement}
 use Rattle.sound.proofs.is_too_large.Tie as tie
-use Rattle.sound.proofs.is_too_large.Reads as reads
-use Rattle.sound.proofs.is_too_large.Lts as lts
 
--- src/lib.rt:441:1
 returns : tie.Need-returns
 unfolding tooLarge
 returns c = refl

@@ -5,254 +5,181 @@ use Rattle.sound.proofs.Reasons.{by-test}
 use borrow.Author.Needs.{needs}
 use Rattle.sound.proofs.is_wrong.Statement.{statement}
 use Rattle.sound.proofs.is_wrong.Tie as tie
-use Rattle.sound.proofs.is_wrong.Reads as reads
-use Rattle.sound.proofs.is_wrong.Lts as lts
-use Rattle.sound.proofs.dns_high.Reads as dns-high-reads
-use Rattle.sound.proofs.extensions_wrong.Reads as extensions-wrong-reads
-use Rattle.sound.proofs.high_string.Reads as high-string-reads
-use Rattle.sound.proofs.name_out.Reads as name-out-reads
-use Rattle.sound.proofs.no_optional.Reads as no-optional-reads
-use Rattle.sound.proofs.no_range.Reads as no-range-reads
-use Rattle.sound.proofs.no_string.Reads as no-string-reads
-use Rattle.sound.proofs.optional_high.Reads as optional-high-reads
-use Rattle.sound.proofs.over.Reads as over-reads
-use Rattle.sound.proofs.string_out.Reads as string-out-reads
-use Rattle.sound.proofs.there.Reads as there-reads
-use Rattle.table.proofs.word.Reads as word-reads
 
--- src/tests.rt:136:13
 add-p : tie.Need-add-p
 add-p c = search needs
 
--- src/tests.rt:138:28
 enum-told : tie.Need-enum-told
 enum-told c = search needs
 
--- src/tests.rt:138:28
 string-out-requires : tie.Need-string-out-requires
 string-out-requires c κs = search needs
 
--- src/tests.rt:139:28
 enum-told-2 : tie.Need-enum-told-2
 enum-told-2 c = search needs
 
--- src/tests.rt:139:28
 no-string-requires : tie.Need-no-string-requires
 no-string-requires c κs = search needs
 
--- src/tests.rt:140:30
 enum-told-3 : tie.Need-enum-told-3
 enum-told-3 c = search needs
 
--- src/tests.rt:140:30
 no-optional-requires : tie.Need-no-optional-requires
 no-optional-requires c κs = search needs
 
--- src/tests.rt:141:24
 enum-known-t : tie.Need-enum-known-t
 enum-known-t c = search needs
 
--- src/tests.rt:141:30
 no-range-requires : tie.Need-no-range-requires
 no-range-requires c κs = search needs
 
--- src/tests.rt:142:26
 enum-told-4 : tie.Need-enum-told-4
 enum-told-4 c = search needs
 
--- src/tests.rt:142:26
 name-out-requires : tie.Need-name-out-requires
 name-out-requires c κs = search needs
 
--- src/tests.rt:143:26
 enum-known-t-2 : tie.Need-enum-known-t-2
 enum-known-t-2 c = search needs
 
--- src/tests.rt:143:49
 cast-there : tie.Need-cast-there
 cast-there c = search needs
 
--- src/tests.rt:143:45
 add-there : tie.Need-add-there
 add-there c = search needs
 
--- src/tests.rt:143:32
 there-requires : tie.Need-there-requires
 there-requires c κs = search needs
 
--- src/tests.rt:143:63
 no-string-requires-2 : tie.Need-no-string-requires-2
 no-string-requires-2 c κs = search needs
 
--- src/tests.rt:144:28
 enum-known-t-3 : tie.Need-enum-known-t-3
 enum-known-t-3 c = search needs
 
--- src/tests.rt:144:51
 cast-there-2 : tie.Need-cast-there-2
 cast-there-2 c = search needs
 
--- src/tests.rt:144:47
 add-there-2 : tie.Need-add-there-2
 add-there-2 c = search needs
 
--- src/tests.rt:144:34
 there-requires-2 : tie.Need-there-requires-2
 there-requires-2 c κs = search needs
 
--- src/tests.rt:144:65
 no-optional-requires-2 : tie.Need-no-optional-requires-2
 no-optional-requires-2 c κs = search needs
 
--- src/tests.rt:145:25
 enum-known-t-4 : tie.Need-enum-known-t-4
 enum-known-t-4 c = search needs
 
--- src/tests.rt:145:51
 cast-there-3 : tie.Need-cast-there-3
 cast-there-3 c = search needs
 
--- src/tests.rt:145:47
 add-there-3 : tie.Need-add-there-3
 add-there-3 c = search needs
 
--- src/tests.rt:145:34
 there-requires-3 : tie.Need-there-requires-3
 there-requires-3 c κs = search needs
 
--- src/tests.rt:145:65
 no-range-requires-2 : tie.Need-no-range-requires-2
 no-range-requires-2 c κs = search needs
 
--- src/tests.rt:146:20
 enum-known-t-5 : tie.Need-enum-known-t-5
 enum-known-t-5 c = search needs
 
--- src/tests.rt:146:29
 over-requires : tie.Need-over-requires
 over-requires c κs = search needs
 
--- src/tests.rt:147:24
 enum-known-t-6 : tie.Need-enum-known-t-6
 enum-known-t-6 c = search needs
 
--- src/tests.rt:147:53
 cast-there-4 : tie.Need-cast-there-4
 cast-there-4 c = search needs
 
--- src/tests.rt:147:49
 add-there-4 : tie.Need-add-there-4
 add-there-4 c = search needs
 
--- src/tests.rt:147:36
 there-requires-4 : tie.Need-there-requires-4
 there-requires-4 c κs = search needs
 
--- src/tests.rt:147:67
 over-requires-2 : tie.Need-over-requires-2
 over-requires-2 c κs = search needs
 
--- src/tests.rt:148:29
 enum-told-5 : tie.Need-enum-told-5
 enum-told-5 c = search needs
 
--- src/tests.rt:148:29
 extensions-wrong-requires : tie.Need-extensions-wrong-requires
 extensions-wrong-requires c κs = search needs
 
--- src/tests.rt:149:64
 enum-told-6 : tie.Need-enum-told-6
 enum-told-6 c = search needs
 
--- src/tests.rt:149:64
 word-requires : tie.Need-word-requires
 word-requires c κs = search needs
 
--- src/tests.rt:149:29
 high-string-requires : tie.Need-high-string-requires
 high-string-requires c κs = search needs
 
--- src/tests.rt:150:26
 enum-told-7 : tie.Need-enum-told-7
 enum-told-7 c = search needs
 
--- src/tests.rt:150:26
 dns-high-requires : tie.Need-dns-high-requires
 dns-high-requires c κs = search needs
 
--- src/tests.rt:151:31
 enum-told-8 : tie.Need-enum-told-8
 enum-told-8 c = search needs
 
--- src/tests.rt:151:31
 optional-high-requires : tie.Need-optional-high-requires
 optional-high-requires c κs = search needs
 
--- src/tests.rt:152:26
 enum-told-9 : tie.Need-enum-told-9
 enum-told-9 c = search needs
 
--- src/tests.rt:152:26
 there-requires-5 : tie.Need-there-requires-5
 there-requires-5 c κs = search needs
 
--- src/tests.rt:132:1
 returns : tie.Need-returns
 returns c = by-test _ _ _ _ _ _ (c .before .enum-told .given .1) (c .string-out .ensures)
 
--- src/tests.rt:132:1
 returns-2 : tie.Need-returns-2
 returns-2 c = by-test _ _ _ _ _ _ (c .before .enum-told2 .given .1) (c .no-string .ensures)
 
--- src/tests.rt:132:1
 returns-3 : tie.Need-returns-3
 returns-3 c = by-test _ _ _ _ _ _ (c .before .enum-told3 .given .1) (c .no-optional .ensures)
 
--- src/tests.rt:132:1
 returns-4 : tie.Need-returns-4
 returns-4 c = by-test _ _ _ _ _ _ (c .before .before .t .given .1) (c .no-range .ensures)
 
--- src/tests.rt:132:1
 returns-5 : tie.Need-returns-5
 returns-5 c = by-test _ _ _ _ _ _ (c .before .enum-told4 .given .1) (c .name-out .ensures)
 
--- src/tests.rt:132:1
 returns-6 : tie.Need-returns-6
 returns-6 c = by-test _ _ _ _ _ _ (c .before .before .before .t2 .given .1) (ap₂ _&&_ (c .before .there .ensures) (c .no-string2 .ensures))
 
--- src/tests.rt:132:1
 returns-7 : tie.Need-returns-7
 returns-7 c = by-test _ _ _ _ _ _ (c .before .before .before .t3 .given .1) (ap₂ _&&_ (c .before .there2 .ensures) (c .no-optional2 .ensures))
 
--- src/tests.rt:132:1
 returns-8 : tie.Need-returns-8
 returns-8 c = by-test _ _ _ _ _ _ (c .before .before .before .t4 .given .1) (ap₂ _&&_ (c .before .there3 .ensures) (c .no-range2 .ensures))
 
--- src/tests.rt:132:1
 returns-9 : tie.Need-returns-9
 returns-9 c = by-test _ _ _ _ _ _ (c .before .before .t5 .given .1) (c .over .ensures)
 
--- src/tests.rt:132:1
 returns-10 : tie.Need-returns-10
 returns-10 c = by-test _ _ _ _ _ _ (c .before .before .before .t6 .given .1) (ap₂ _&&_ (c .before .there4 .ensures) (c .over2 .ensures))
 
--- src/tests.rt:132:1
 returns-11 : tie.Need-returns-11
 returns-11 c = by-test _ _ _ _ _ _ (c .before .enum-told5 .given .1) (c .extensions-wrong .ensures)
 
--- src/tests.rt:132:1
 returns-12 : tie.Need-returns-12
 returns-12 c = by-test _ _ _ _ _ _ (c .before .before .enum-told6 .given .1) (c .high-string .ensures ∙ ap (highString _ _) (c .before .word .ensures))
 
--- src/tests.rt:132:1
 returns-13 : tie.Need-returns-13
 returns-13 c = by-test _ _ _ _ _ _ (c .before .enum-told7 .given .1) (c .dns-high .ensures)
 
--- src/tests.rt:132:1
 returns-14 : tie.Need-returns-14
 returns-14 c = by-test _ _ _ _ _ _ (c .before .enum-told8 .given .1) (c .optional-high .ensures)
 
--- src/tests.rt:132:1
 returns-15 : tie.Need-returns-15
 returns-15 c = by-test _ _ _ _ _ _ (c .before .enum-told9 .given .1) (c .there5 .ensures)
 

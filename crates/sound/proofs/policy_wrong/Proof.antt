@@ -11,10 +11,6 @@ use Rattle.sound.specs.Tables.{policyLines, line}
 use Rattle.sound.proofs.Steps.{each-more, each-done, fits-at}
 use Rattle.sound.proofs.policy_wrong.Statement.{statement}
 use Rattle.sound.proofs.policy_wrong.Tie as tie
-use Rattle.sound.proofs.policy_wrong.Reads as reads
-use Rattle.sound.proofs.policy_wrong.Lts as lts
-use Rattle.sound.proofs.tables.policy_lines.Reads as policy-lines-reads
-use Rattle.sound.proofs.with_line.Reads as with-line-reads
 
 abbrev Inv-loop : tie.InvT-loop
 Inv-loop words bytes lines f₀ k₀ f k = foundEach (foundIn words bytes) Clear policyLines ≡ foundEach (foundIn words bytes) f (drop k policyLines)
@@ -22,39 +18,30 @@ Inv-loop words bytes lines f₀ k₀ f k = foundEach (foundIn words bytes) Clear
 abbrev μ-loop : tie.MeasureT-loop
 μ-loop words bytes lines f₀ k₀ f k = 14 - k
 
--- src/lib.rt:384:17
 policy-lines-requires : tie.Need-policy-lines-requires Inv-loop μ-loop
 policy-lines-requires c κs = search needs
 
--- src/lib.rt:387:5
 loop-holds : tie.Need-loop-holds Inv-loop μ-loop
 loop-holds c = refl
 
--- src/lib.rt:388:17
 mul-l : tie.Need-mul-l Inv-loop μ-loop
 mul-l c = search needs
 
--- src/lib.rt:388:17
 array-copy-out-l : tie.Need-array-copy-out-l Inv-loop μ-loop
 array-copy-out-l c = search needs
 
--- src/lib.rt:389:9
 with-line-requires : tie.Need-with-line-requires Inv-loop μ-loop
 with-line-requires c κs = fits-of _ policyLines (line 0 Header 0 StringOut) _ _ (c .before .before .before .policy-lines .ensures) (c .before .before .before .before .before .before .pre) (c .before .loop-test .taken)
 
--- src/lib.rt:390:9
 add-k : tie.Need-add-k Inv-loop μ-loop
 add-k c = search needs
 
--- src/lib.rt:387:5
 loop-less : tie.Need-loop-less Inv-loop μ-loop
 loop-less c = search needs
 
--- src/lib.rt:387:5
 loop-again : tie.Need-loop-again Inv-loop μ-loop
 loop-again c = each-more (foundIn _ _) policyLines (line 0 Header 0 StringOut) _ _ (c .before .before .before .loop .inv) _ (c .before .before .loop-test .taken) (c .before .before .before .before .policy-lines .ensures) (c .with-line .ensures)
 
--- src/lib.rt:380:1
 returns : tie.Need-returns Inv-loop μ-loop
 returns c = each-done (foundIn _ _) policyLines (line 0 Header 0 StringOut) _ _ (c .before .loop .inv) (c .loop-test .left)
 

@@ -2,45 +2,31 @@ use Rattle.sound.proofs.Steps.{rows-header, rows-section, rows-listed, 
 use borrow.Author.Needs.{needs}
 use Rattle.sound.proofs.rows_of.Statement.{statement}
 use Rattle.sound.proofs.rows_of.Tie as tie
-use Rattle.sound.proofs.rows_of.Reads as reads
-use Rattle.sound.proofs.rows_of.Lts as lts
-use Rattle.sound.proofs.listed_rows.Reads as listed-rows-reads
-use Rattle.table.proofs.count.Reads as count-reads
-use Rattle.table.proofs.offset.Reads as offset-reads
 
--- src/lib.rt:310:26
 enum-told : tie.Need-enum-told
 enum-told c = search needs
 
--- src/lib.rt:315:20
 enum-known-block : tie.Need-enum-known-block
 enum-known-block c = search needs
 
--- src/lib.rt:316:17
 offset-requires : tie.Need-offset-requires
 offset-requires c κs = search needs
 
--- src/lib.rt:318:20
 count-requires : tie.Need-count-requires
 count-requires c κs = search needs
 
--- src/lib.rt:320:23
 enum-known-block-2 : tie.Need-enum-known-block-2
 enum-known-block-2 c = search needs
 
--- src/lib.rt:320:29
 listed-rows-requires : tie.Need-listed-rows-requires
 listed-rows-requires c κs = listed-need _ _ _ (c .before .block2 .given .1) (c .before .before .before .before .pre)
 
--- src/lib.rt:305:1
 returns : tie.Need-returns
 returns c = rows-header _ _ (c .enum-told .given .1)
 
--- src/lib.rt:305:1
 returns-2 : tie.Need-returns-2
 returns-2 c = rows-section _ _ _ (c .before .before .before .block .given .1) (c .before .offset .ensures) (c .count .ensures)
 
--- src/lib.rt:305:1
 returns-3 : tie.Need-returns-3
 returns-3 c = rows-listed _ _ _ (c .before .before .block2 .given .1) (c .listed-rows .ensures)
 

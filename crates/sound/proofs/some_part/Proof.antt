@@ -2,83 +2,61 @@ use Rattle.sound.specs.Wrong.{somePart}
 use borrow.Author.Needs.{needs}
 use Rattle.sound.proofs.some_part.Statement.{statement}
 use Rattle.sound.proofs.some_part.Tie as tie
-use Rattle.sound.proofs.some_part.Reads as reads
-use Rattle.sound.proofs.some_part.Lts as lts
-use Rattle.sound.proofs.there.Reads as there-reads
 
--- src/tests.rt:93:18
 add-there : tie.Need-add-there
 add-there c = search needs
 
--- src/tests.rt:93:5
 there-requires : tie.Need-there-requires
 there-requires c κs = search needs
 
--- src/tests.rt:94:24
 add-there-2 : tie.Need-add-there-2
 add-there-2 c = search needs
 
--- src/tests.rt:94:11
 there-requires-2 : tie.Need-there-requires-2
 there-requires-2 c κs = search needs
 
--- src/tests.rt:95:24
 add-there-3 : tie.Need-add-there-3
 add-there-3 c = search needs
 
--- src/tests.rt:95:11
 there-requires-3 : tie.Need-there-requires-3
 there-requires-3 c κs = search needs
 
--- src/tests.rt:96:24
 add-there-4 : tie.Need-add-there-4
 add-there-4 c = search needs
 
--- src/tests.rt:96:11
 there-requires-4 : tie.Need-there-requires-4
 there-requires-4 c κs = search needs
 
--- src/tests.rt:97:24
 add-there-5 : tie.Need-add-there-5
 add-there-5 c = search needs
 
--- src/tests.rt:97:11
 there-requires-5 : tie.Need-there-requires-5
 there-requires-5 c κs = search needs
 
--- src/tests.rt:98:24
 add-there-6 : tie.Need-add-there-6
 add-there-6 c = search needs
 
--- src/tests.rt:98:11
 there-requires-6 : tie.Need-there-requires-6
 there-requires-6 c κs = search needs
 
--- src/tests.rt:99:24
 add-there-7 : tie.Need-add-there-7
 add-there-7 c = search needs
 
--- src/tests.rt:99:11
 there-requires-7 : tie.Need-there-requires-7
 there-requires-7 c κs = search needs
 
--- src/tests.rt:100:24
 add-there-8 : tie.Need-add-there-8
 add-there-8 c = search needs
 
--- src/tests.rt:100:11
 there-requires-8 : tie.Need-there-requires-8
 there-requires-8 c κs = search needs
 
--- src/tests.rt:101:24
 add-there-9 : tie.Need-add-there-9
 add-there-9 c = search needs
 
--- src/tests.rt:101:11
 there-requires-9 : tie.Need-there-requires-9
 there-requires-9 c κs = search needs
 
--- src/tests.rt:89:1
 returns : tie.Need-returns
 unfolding somePart
 returns c = cc

@@ -3,33 +3,24 @@ use Rattle.sound.proofs.Reasons.{sum-past, sum-first, sum-both}
 use borrow.Author.Needs.{needs}
 use Rattle.sound.proofs.string_out.Statement.{statement}
 use Rattle.sound.proofs.string_out.Tie as tie
-use Rattle.sound.proofs.string_out.Reads as reads
-use Rattle.sound.proofs.string_out.Lts as lts
-use Rattle.table.proofs.word.Reads as word-reads
 
--- src/tests.rt:67:9
 returns : tie.Need-returns
 unfolding stringOut
 returns c = sum-past _ _ _ (c .if1 .taken)
 
--- src/tests.rt:70:9
 word-requires : tie.Need-word-requires
 word-requires c κs = search needs
 
--- src/tests.rt:72:9
 returns-2 : tie.Need-returns-2
 unfolding stringOut
 returns-2 c = sum-first _ _ _ (c .before .word .ensures) (c .if2 .taken)
 
--- src/tests.rt:74:33
 add-word : tie.Need-add-word
 add-word c = search needs
 
--- src/tests.rt:74:21
 word-requires-2 : tie.Need-word-requires-2
 word-requires-2 c κs = search needs
 
--- src/tests.rt:63:1
 returns-3 : tie.Need-returns-3
 unfolding stringOut
 returns-3 c = sum-both _ _ _ (c .before .before .word .ensures) (c .word2 .ensures) (c .before .if2 .left)

@@ -3,26 +3,19 @@ use Rattle.table.proofs.Laws.{clip-all, clip-some}
 use borrow.Author.Needs.{needs}
 use Rattle.table.proofs.clip.Statement.{statement}
 use Rattle.table.proofs.clip.Tie as tie
-use Rattle.table.proofs.clip.Reads as reads
-use Rattle.table.proofs.clip.Lts as lts
 
--- src/lib.rt:108:9
 returns : tie.Need-returns
 returns c = clip-all _ _ _ (omega arith)
 
--- src/lib.rt:113:8
 sub-if2 : tie.Need-sub-if2
 sub-if2 c = search needs
 
--- src/lib.rt:114:9
 returns-2 : tie.Need-returns-2
 returns-2 c = clip-all _ _ _ (c .if2 .taken)
 
--- src/lib.rt:121:13
 add-t5 : tie.Need-add-t5
 add-t5 c = search needs
 
--- src/lib.rt:104:1
 returns-3 : tie.Need-returns-3
 returns-3 c = clip-some _ _ _ (omega arith)
 

@@ -2,15 +2,10 @@ use Rattle.table.specs.Table.{countOf}
 use borrow.Author.Needs.{needs}
 use Rattle.table.proofs.count.Statement.{statement}
 use Rattle.table.proofs.count.Tie as tie
-use Rattle.table.proofs.count.Reads as reads
-use Rattle.table.proofs.count.Lts as lts
-use Rattle.table.proofs.word.Reads as word-reads
 
--- src/lib.rt:59:5
 word-requires : tie.Need-word-requires
 word-requires c κs = search needs
 
--- src/lib.rt:55:1
 returns : tie.Need-returns
 unfolding countOf
 returns c = c .word .ensures

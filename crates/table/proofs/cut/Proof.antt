@@ -2,54 +2,40 @@ use Rattle.table.proofs.Laws.{part-none, part-rest, part-whole}
 use borrow.Author.Needs.{needs}
 use Rattle.table.proofs.cut.Statement.{statement}
 use Rattle.table.proofs.cut.Tie as tie
-use Rattle.table.proofs.cut.Reads as reads
-use Rattle.table.proofs.cut.Lts as lts
 
--- src/lib.rt:44:9
 slice-aggregate-result : tie.Need-slice-aggregate-result
 slice-aggregate-result c = search needs
 
--- src/lib.rt:44:9
 returns : tie.Need-returns
 returns c = part-none _ _ _ (c .before .if1 .taken)
 
--- src/lib.rt:47:9
 sub-if2 : tie.Need-sub-if2
 sub-if2 c = search needs
 
--- src/lib.rt:48:16
 sub-result : tie.Need-sub-result
 sub-result c = search needs
 
--- src/lib.rt:48:16
 part-result-start : tie.Need-part-result-start
 part-result-start c = search needs
 
--- src/lib.rt:48:16
 part-result-end : tie.Need-part-result-end
 part-result-end c = search needs
 
--- src/lib.rt:48:9
 returns-2 : tie.Need-returns-2
 returns-2 c = part-rest _ _ _ (c .before .if2 .taken)
 
--- src/lib.rt:51:18
 add-result : tie.Need-add-result
 add-result c = search needs
 
--- src/lib.rt:51:5
 sub-result-2 : tie.Need-sub-result-2
 sub-result-2 c = search needs
 
--- src/lib.rt:51:5
 part-result-start-2 : tie.Need-part-result-start-2
 part-result-start-2 c = search needs
 
--- src/lib.rt:51:5
 part-result-end-2 : tie.Need-part-result-end-2
 part-result-end-2 c = search needs
 
--- src/lib.rt:39:1
 returns-3 : tie.Need-returns-3
 returns-3 c = part-whole _ _ _
 

@@ -3,64 +3,46 @@ use Rattle.table.proofs.Laws.{ends-past, ends-inside, field-past, field
 use borrow.Author.Needs.{needs}
 use Rattle.table.proofs.field.Statement.{statement}
 use Rattle.table.proofs.field.Tie as tie
-use Rattle.table.proofs.field.Reads as reads
-use Rattle.table.proofs.field.Lts as lts
-use Rattle.table.proofs.offset.Reads as offset-reads
-use Rattle.table.proofs.word.Reads as word-reads
 
--- src/lib.rt:78:9
 offset-requires : tie.Need-offset-requires
 offset-requires c κs = search needs
 
--- src/lib.rt:81:9
 returns : tie.Need-returns
 returns c = field-past _ _ _ _ (c .before .offset .ensures) (omega arith)
 
--- src/lib.rt:84:9
 returns-2 : tie.Need-returns-2
 returns-2 c = field-past _ _ _ _ (c .before .before .offset .ensures) (omega arith)
 
--- src/lib.rt:87:29
 add-word : tie.Need-add-word
 add-word c = search needs
 
--- src/lib.rt:87:9
 word-requires : tie.Need-word-requires
 word-requires c κs = search needs
 
--- src/lib.rt:87:9
 returns-3 : tie.Need-returns-3
 returns-3 c = field-flat _ _ _ _ (c .before .before .before .before .offset .ensures) (c .before .if3 .taken) (c .word .ensures)
 
--- src/lib.rt:89:9
 sub-if4 : tie.Need-sub-if4
 sub-if4 c = search needs
 
--- src/lib.rt:89:8
 div-if4 : tie.Need-div-if4
 div-if4 c = search needs
 
--- src/lib.rt:90:9
 returns-4 : tie.Need-returns-4
 returns-4 c = field-past _ _ _ _ (c .before .before .before .before .offset .ensures) (omega (arith, ends-past _ _ _ _ (c .before .if3 .left) (omega arith) (c .if4 .taken)))
 
--- src/lib.rt:92:23
 mul-word : tie.Need-mul-word
 mul-word c = omega (arith, ends-inside _ _ _ _ (c .before .if3 .left) (omega arith) (c .if4 .left))
 
--- src/lib.rt:92:18
 add-word-2 : tie.Need-add-word-2
 add-word-2 c = omega (arith, ends-inside _ _ _ _ (c .before .if3 .left) (omega arith) (c .if4 .left))
 
--- src/lib.rt:92:18
 add-word-3 : tie.Need-add-word-3
 add-word-3 c = omega (arith, ends-inside _ _ _ _ (c .before .if3 .left) (omega arith) (c .if4 .left))
 
--- src/lib.rt:92:5
 word-requires-2 : tie.Need-word-requires-2
 word-requires-2 c κs = search needs
 
--- src/lib.rt:74:1
 returns-5 : tie.Need-returns-5
 returns-5 c = field-at _ _ _ _ (c .before .before .before .before .before .offset .ensures) (c .word2 .ensures)
 

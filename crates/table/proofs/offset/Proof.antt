@@ -4,24 +4,17 @@ use Rattle.table.proofs.Laws.{word-past}
 use borrow.Author.Needs.{needs}
 use Rattle.table.proofs.offset.Statement.{statement}
 use Rattle.table.proofs.offset.Tie as tie
-use Rattle.table.proofs.offset.Reads as reads
-use Rattle.table.proofs.offset.Lts as lts
-use Rattle.table.proofs.word.Reads as word-reads
 
--- src/lib.rt:68:28
 add-word : tie.Need-add-word
 add-word c = search needs
 
--- src/lib.rt:68:9
 word-requires : tie.Need-word-requires
 word-requires c κs = search needs
 
--- src/lib.rt:68:9
 returns : tie.Need-returns
 unfolding offsetOf
 returns c = c .word .ensures
 
--- src/lib.rt:63:1
 returns-2 : tie.Need-returns-2
 unfolding offsetOf
 returns-2 c = word-past _ _ (omega arith)

@@ -3,23 +3,17 @@ use Rattle.table.proofs.Laws.{word-past}
 use borrow.Author.Needs.{needs}
 use Rattle.table.proofs.word.Statement.{statement}
 use Rattle.table.proofs.word.Tie as tie
-use Rattle.table.proofs.word.Reads as reads
-use Rattle.table.proofs.word.Lts as lts
 
--- src/lib.rt:35:27
 mul-result : tie.Need-mul-result
 mul-result c = search needs
 
--- src/lib.rt:35:27
 shared-slice-read-result : tie.Need-shared-slice-read-result
 shared-slice-read-result c = search needs
 
--- src/lib.rt:32:1
 returns : tie.Need-returns
 unfolding word
 returns c = search needs
 
--- src/lib.rt:32:1
 returns-2 : tie.Need-returns-2
 returns-2 c = word-past _ _ (c .if1 .left)
 

@@ -10,8 +10,6 @@ use Rattle.laws.proofs.Rows.{at}
 use Rattle.laws.proofs.Loops.{each-start, each-more, each-counted}
 use Rattle.text.proofs.agree.Statement.{statement}
 use Rattle.text.proofs.agree.Tie as tie
-use Rattle.text.proofs.agree.Reads as reads
-use Rattle.text.proofs.agree.Lts as lts
 
 abbrev Inv-loop : tie.InvT-loop
 Inv-loop a b ok₀ i₀ ok i = eqList a b ≡ (ok && each eqb (rows (at 0 a) i (length a)) (rows (at 0 b) i (length b)))
@@ -19,27 +17,21 @@ Inv-loop a b ok₀ i₀ ok i = eqList a b ≡ (ok && each eqb (rows (at 0 a) i (
 abbrev μ-loop : tie.MeasureT-loop
 μ-loop a b ok₀ i₀ ok i = length a - i
 
--- src/lib.rt:106:5
 loop-holds : tie.Need-loop-holds Inv-loop μ-loop
 loop-holds c = each-start 0 0 _ _ _
 
--- src/lib.rt:107:20
 shared-slice-read-ok : tie.Need-shared-slice-read-ok Inv-loop μ-loop
 shared-slice-read-ok c = search needs
 
--- src/lib.rt:107:28
 shared-slice-read-ok-2 : tie.Need-shared-slice-read-ok-2 Inv-loop μ-loop
 shared-slice-read-ok-2 c = search needs
 
--- src/lib.rt:108:9
 add-i : tie.Need-add-i Inv-loop μ-loop
 add-i c = search needs
 
--- src/lib.rt:106:5
 loop-less : tie.Need-loop-less Inv-loop μ-loop
 loop-less c = search needs
 
--- src/lib.rt:106:5
 loop-again : tie.Need-loop-again Inv-loop μ-loop
 unfolding at
 loop-again c =
@@ -47,7 +39,6 @@ loop-again c =
     let i = c .before .before .before .loop .i in
     each-more eqb (at 0 (a .a .now)) (at 0 (a .b .now)) i (length (a .a .now)) i (length (a .b .now)) (c .before .before .before .loop .ok) (c .before .before .loop-test .taken) (omega arith) refl (c .before .before .before .loop .inv)
 
--- src/lib.rt:100:1
 returns : tie.Need-returns Inv-loop μ-loop
 returns c = each-counted _ _ _ _ _ _ _ (c .loop-test .left) (omega arith) (c .before .loop .inv)
 

@@ -7,28 +7,19 @@ use Rattle.text.proofs.Chars.{entry-lower}
 use borrow.Author.Needs.{needs}
 use Rattle.text.proofs.lowered_equal.Statement.{statement}
 use Rattle.text.proofs.lowered_equal.Tie as tie
-use Rattle.text.proofs.lowered_equal.Reads as reads
-use Rattle.text.proofs.lowered_equal.Lts as lts
-use Rattle.text.proofs.table.entry_in.Reads as entry-in-reads
-use Rattle.text.proofs.table.whole.Reads as whole-reads
 
--- src/lib.rt:139:9
 returns : tie.Need-returns
 returns c = sym (eq-eqb _ _ (ap lowerByte (c .if1 .taken)))
 
--- src/lib.rt:141:17
 whole-requires : tie.Need-whole-requires
 whole-requires c κs = search needs
 
--- src/lib.rt:142:5
 entry-in-requires : tie.Need-entry-in-requires
 entry-in-requires c κs = search needs
 
--- src/lib.rt:142:41
 entry-in-requires-2 : tie.Need-entry-in-requires-2
 entry-in-requires-2 c κs = search needs
 
--- src/lib.rt:135:1
 returns-2 : tie.Need-returns-2
 returns-2 c = ap₂ eqb (entry-lower _ (omega arith) _ (c .before .before .before .before .whole .ensures) (c .before .before .entry-in .ensures)) (entry-lower _ (omega arith) _ (c .before .before .before .before .whole .ensures) (c .entry-in2 .ensures))
 

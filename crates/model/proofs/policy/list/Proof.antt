@@ -2,44 +2,31 @@ use Rattle.model.proofs.Laws.{list-past, list-at}
 use borrow.Author.Needs.{needs}
 use Rattle.model.proofs.policy.list.Statement.{statement}
 use Rattle.model.proofs.policy.list.Tie as tie
-use Rattle.model.proofs.policy.list.Reads as reads
-use Rattle.model.proofs.policy.list.Lts as lts
-use Rattle.model.proofs.chain.rows_in.Reads as rows-in-reads
-use Rattle.table.proofs.word.Reads as word-reads
 
--- src/policy.rt:35:9
 rows-in-requires : tie.Need-rows-in-requires
 rows-in-requires c κs = search needs
 
--- src/policy.rt:35:9
 returns : tie.Need-returns
 returns c = list-past _ _ (c .before .if1 .taken) (c .rows-in .ensures)
 
--- src/policy.rt:37:27
 mul-at : tie.Need-mul-at
 mul-at c = search needs
 
--- src/policy.rt:37:14
 add-at : tie.Need-add-at
 add-at c = search needs
 
--- src/policy.rt:38:43
 word-requires : tie.Need-word-requires
 word-requires c κs = search needs
 
--- src/policy.rt:38:86
 add-word : tie.Need-add-word
 add-word c = search needs
 
--- src/policy.rt:38:67
 word-requires-2 : tie.Need-word-requires-2
 word-requires-2 c κs = search needs
 
--- src/policy.rt:38:5
 rows-in-requires-2 : tie.Need-rows-in-requires-2
 rows-in-requires-2 c κs = search needs
 
--- src/policy.rt:30:1
 returns-2 : tie.Need-returns-2
 returns-2 c = list-at _ _ (c .before .before .word .ensures) (c .before .word2 .ensures) (c .rows-in2 .ensures)
 
