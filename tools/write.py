@@ -5,8 +5,9 @@ import sys
 
 import byte_table
 import loops
+import searches
 
-MAKERS = [byte_table, loops]
+MAKERS = [byte_table, loops, searches]
 TOP = pathlib.Path(__file__).resolve().parent.parent
 
 

@@ -38,6 +38,17 @@ module _ {A : Type 0} (p : A → Bool) (g : ℕ → A) (i e : ℕ) {whole : Bool
   unfolding all
   all-none h w = sym (w ∙ rw (rows-end g i e h) refl)
 
+  -- the same without a way out: some is what was found so far
+  pub any-more : (some : Bool) {r : Bool} → i < e → r ≡ p (g i) → whole ≡ (some || any p (rows g i e)) → whole ≡ ((some || r) || any p (rows g (i + 1) e))
+  unfolding any
+  any-more true h t w = w
+  any-more false h t w = w ∙ rw (rows-step g i e h, ← t) refl
+
+  pub any-counted : (some : Bool) → e ≤ i → whole ≡ (some || any p (rows g i e)) → some ≡ whole
+  unfolding any
+  any-counted true h w = sym w
+  any-counted false h w = sym (w ∙ rw (rows-end g i e h) refl)
+
 -- the first number that passes
 module _ (p : ℕ → Bool) (i e : ℕ) {whole : ℕ} where
   pub least-here : {r : Bool} → i < e → r ≡ p i → r ≡ true → whole ≡ least p i e → i ≡ whole

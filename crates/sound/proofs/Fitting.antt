@@ -43,7 +43,7 @@ unfolding misplaced
 section-fits header w s h = ltb-false (length w) (offsetOf w s + s .size * countOf w s) (or-right (ltb (offsetOf w s) header) _ h)
 
 module _ (w : List ℕ) (n j : ℕ) (t : Test) where
-  header-line : Fits w (line n Header j t)
+  pub header-line : Fits w (line n Header j t)
   unfolding Fits rowsOf
   header-line = omega arith
 

@@ -5,11 +5,10 @@ use native.Mathlib.Decide.{decLt}
 use native.Mathlib.Nat.{mul-le-mul-left, zero-mul, mul-zero, mul-suc, add-zero}
 use native.Mathlib.Numerals.{add-one}
 use mathlib.Core.Path.{_≡_, refl, sym, ap, _∙_}
-use mathlib.Core.List.{List, [], _∷_}
+use mathlib.Core.List.{List, [], _∷_, _++_}
 use mathlib.Core.Bool.{Bool, true, false, _&&_, _||_, or-true}
 use lib.Dec.{eqb, ltb}
-use lib.ListN.{length, getD, drop, drop-of-length-le}
-use lib.Seq.{drop-cons}
+use lib.ListN.{length}
 use borrow.Author.Tests.{lt-ltb, le-ltb}
 use Rattle.laws.specs.Lists.{pick, least}
 use Rattle.laws.proofs.Tests.{pick-true, pick-false}
@@ -141,21 +140,31 @@ module _ (w b : List ℕ) (l : Line) (f : Found) {r : Rows} (e : r ≡ rowsOf w 
   unfolding foundIn foundAt
   line-clear h = earlier-none f ∙ rw (← e, ← t, le-ltb i (r .count) h) refl
 
--- ---- one more of a list of things to look at, and the end
-module _ {A : Type 0} (found : A → Found) (xs : List A) (d : A) (k : ℕ) (f : Found) {whole : Found} (w : whole ≡ foundEach found f (drop k xs)) where
-  pub each-more : {g : Found} (ys : List A) → k < length xs → ys ≡ xs → g ≡ earlierOf f (found (getD ys k d)) → whole ≡ foundEach found g (drop (k + 1) xs)
+-- ---- one more of the things to look at
+module _ {A : Type 0} (found : A → Found) where
+  pub each-more : (x : A) (xs : List A) (f : Found) {g r : Found} → g ≡ earlierOf f (found x) → r ≡ foundEach found g xs → r ≡ foundEach found f (x ∷ xs)
   unfolding foundEach
-  each-more ys h e t = w ∙ rw (add-one, drop-cons xs k d h, t, e) refl
+  each-more x xs f e t = t ∙ ap (λ (h : Found). foundEach found h xs) e
 
-  pub each-done : length xs ≤ k → f ≡ whole
+  pub each-done : {r : Found} → r ≡ foundEach found r []
   unfolding foundEach
-  each-done h = sym (w ∙ rw (drop-of-length-le xs h) refl)
+  each-done = refl
 
--- each of a list of lines fits
-pub fits-at : (w : List ℕ) (ls : List Line) (d : Line) (k : ℕ) → AllFit w ls → k < length ls → Fits w (getD ls k d)
-fits-at w [] d k a h = absurd (omega arith)
-fits-at w (l ∷ ls) d zero a h = a .0
-fits-at w (l ∷ ls) d (suc k) a h = fits-at w ls d k (a .1) (omega arith)
+  -- first some, then the others
+  each-both : (xs ys : List A) (f : Found) → foundEach found f (xs ++ ys) ≡ foundEach found (foundEach found f xs) ys
+  unfolding foundEach
+  each-both [] ys f = refl
+  each-both (x ∷ xs) ys f = each-both xs ys (earlierOf f (found x))
 
-pub fits-of : (w : List ℕ) (ls : List Line) (d : Line) (k : ℕ) (xs : List Line) → xs ≡ ls → AllFit w ls → k < length ls → Fits w (getD xs k d)
-fits-of w ls d k xs e a h = rw e (fits-at w ls d k a h)
+  pub each-then : (xs ys : List A) (f : Found) {g r : Found} → g ≡ foundEach found f xs → r ≡ foundEach found g ys → r ≡ foundEach found f (xs ++ ys)
+  each-then xs ys f e t = t ∙ ap (λ (h : Found). foundEach found h ys) e ∙ sym (each-both xs ys f)
+
+-- lines that fit, first some, then the others
+module _ (w : List ℕ) where
+  pub fits-front : (xs ys : List Line) → AllFit w (xs ++ ys) → AllFit w xs
+  fits-front [] ys h = tt
+  fits-front (x ∷ xs) ys h = (h .0, fits-front xs ys (h .1))
+
+  pub fits-rest : (xs ys : List Line) → AllFit w (xs ++ ys) → AllFit w ys
+  fits-rest [] ys h = h
+  fits-rest (x ∷ xs) ys h = fits-rest xs ys (h .1)

@@ -1,6 +1,6 @@
 -- Refusals 5 to 8, one line for each number and field: the refusal's number, the rows, the word of the row, and what is wrong with it. Assumes nothing.
 use Prim.Native.Nat.{ℕ}
-use mathlib.Core.List.{List, [], _∷_}
+use mathlib.Core.List.{List, [], _∷_, _++_}
 use Rattle.table.specs.Table.{strings}
 use Rattle.table.specs.declared.Section.{Section}
 use Rattle.model.specs.Sections.{attributes, rdns, names, usages, certs, entries}
@@ -17,9 +17,10 @@ abbrev pub cert : ℕ → ℕ → Test → Line
 cert n j t = line n (All certs) j t
 
 -- ---- the chain bundle
-abbrev pub chainLines : List Line
-chainLines =
-    -- 5: a string, number or range ends outside its section or the bytes. The host
+-- 5: a string, number or range ends outside its section or the bytes. The header and the tables
+abbrev pub tablesOut : List Line
+tablesOut =
+    -- the host
     line 5 Header 13 OptionalOut
     -- a string, in the bytes
     ∷ line 5 (All strings) 0 StringOut
@@ -30,14 +31,16 @@ chainLines =
     ∷ line 5 (All rdns) 0 (RangeOut attributes)
     -- a name's x, and y, by its kind
     ∷ line 5 (All names) 1 NameOut
-    -- a certificate: fingerprint, serial, outer and inner signature bytes
-    ∷ cert 5 0 NumberOut
+    ∷ []
+
+-- 5: the strings of a certificate
+abbrev pub certStringsOut : List Line
+certStringsOut =
+    -- fingerprint, serial, outer and inner signature bytes
+    cert 5 0 NumberOut
     ∷ cert 5 2 NumberOut
     ∷ cert 5 3 NumberOut
     ∷ cert 5 4 NumberOut
-    -- issuer and subject
-    ∷ cert 5 7 (RangeOut rdns)
-    ∷ cert 5 9 (RangeOut rdns)
     -- issuer UID and subject UID
     ∷ cert 5 13 OptionalOut
     ∷ cert 5 14 OptionalOut
@@ -47,6 +50,14 @@ chainLines =
     ∷ cert 5 18 (PartOptional 15)
     -- the SKI's key id
     ∷ cert 5 20 (PartNumber 19)
+    ∷ []
+
+-- 5: the ranges of a certificate
+abbrev pub certRangesOut : List Line
+certRangesOut =
+    -- issuer and subject
+    cert 5 7 (RangeOut rdns)
+    ∷ cert 5 9 (RangeOut rdns)
     -- the EKU's usages
     ∷ cert 5 22 (PartRange 21 usages)
     -- the SAN's names
@@ -54,49 +65,62 @@ chainLines =
     -- the NC's permitted and excluded names
     ∷ cert 5 34 (PartRange 33 names)
     ∷ cert 5 36 (PartRange 33 names)
-    -- 6: a code above its range. A name's kind, a usage
-    ∷ line 6 (All names) 0 (Over 4)
+    ∷ []
+
+-- 6: a code above its range
+abbrev pub codesOver : List Line
+codesOver =
+    -- a name's kind, a usage
+    line 6 (All names) 0 (Over 4)
     ∷ line 6 (All usages) 0 (Over 7)
     -- the version, of 32 bits, and the key's kind
     ∷ cert 6 1 (Over 4294967295)
     ∷ cert 6 11 (Over 2)
-    -- the marks of AKI, SKI, EKU
-    ∷ cert 6 15 (Over 3)
-    ∷ cert 6 19 (Over 3)
-    ∷ cert 6 21 (Over 3)
-    -- BC: its mark, CA, path length present
-    ∷ cert 6 24 (Over 3)
+    -- the BC's CA and path length present
     ∷ cert 6 25 (PartOver 24 1)
     ∷ cert 6 26 (PartOver 24 1)
-    -- KU: its mark and its bits
-    ∷ cert 6 28 (Over 3)
+    -- the KU's bits
     ∷ cert 6 29 (PartOver 28 511)
-    -- the marks of SAN, NC, policies, AIA
+    -- any extensions
+    ∷ cert 6 40 Extensions
+    ∷ []
+
+-- 6: the marks of AKI, SKI, EKU, BC, KU, SAN, NC, policies and AIA
+abbrev pub marksOver : List Line
+marksOver =
+    cert 6 15 (Over 3)
+    ∷ cert 6 19 (Over 3)
+    ∷ cert 6 21 (Over 3)
+    ∷ cert 6 24 (Over 3)
+    ∷ cert 6 28 (Over 3)
     ∷ cert 6 30 (Over 3)
     ∷ cert 6 33 (Over 3)
     ∷ cert 6 38 (Over 3)
     ∷ cert 6 39 (Over 3)
-    -- any extensions
-    ∷ cert 6 40 Extensions
-    -- 7: a byte over 127 in the host, an attribute's value, a DNS name
-    ∷ line 7 Header 13 OptionalHigh
+    ∷ []
+
+-- 7: a byte over 127 in the host, an attribute's value, a DNS name. 8: a purpose that is not 0
+abbrev pub namesHigh : List Line
+namesHigh =
+    line 7 Header 13 OptionalHigh
     ∷ line 7 (All attributes) 1 NumberHigh
     ∷ line 7 (All names) 1 DnsHigh
-    -- 8: a purpose that is not 0
     ∷ line 8 Header 14 NotZero
     ∷ []
+
+abbrev pub chainLines : List Line
+chainLines = tablesOut ++ (certStringsOut ++ (certRangesOut ++ (codesOver ++ (marksOver ++ namesHigh))))
 
 -- the sections, for refusal 4
 abbrev pub chainSections : List Section
 chainSections = strings ∷ attributes ∷ rdns ∷ names ∷ usages ∷ certs ∷ []
 
 -- ---- the policy bundle
-abbrev pub policyLines : List Line
-policyLines =
-    -- 5: a string, in the bytes, and an entry of L
+-- 5: a string, in the bytes, an entry of L, and the ranges of the nine lists
+abbrev pub listsOut : List Line
+listsOut =
     line 5 (All strings) 0 StringOut
     ∷ line 5 (All entries) 0 NumberOut
-    -- the ranges of the nine lists
     ∷ line 5 Header 5 (RangeOut entries)
     ∷ line 5 Header 7 (RangeOut entries)
     ∷ line 5 Header 9 (RangeOut entries)
@@ -106,11 +130,18 @@ policyLines =
     ∷ line 5 Header 17 (RangeOut entries)
     ∷ line 5 Header 19 (RangeOut entries)
     ∷ line 5 Header 21 (RangeOut entries)
-    -- 7: a byte over 127 in an entry of public_suffix, india_domains or anssi_domains
-    ∷ line 7 (Listed 5) 0 NumberHigh
+    ∷ []
+
+-- 7: a byte over 127 in an entry of public_suffix, india_domains or anssi_domains
+abbrev pub entriesHigh : List Line
+entriesHigh =
+    line 7 (Listed 5) 0 NumberHigh
     ∷ line 7 (Listed 17) 0 NumberHigh
     ∷ line 7 (Listed 21) 0 NumberHigh
     ∷ []
+
+abbrev pub policyLines : List Line
+policyLines = listsOut ++ entriesHigh
 
 abbrev pub policySections : List Section
 policySections = strings ∷ entries ∷ []

@@ -13,7 +13,7 @@ use Rattle.laws.specs.Lists.{all, numbers, rows, run, pick}
 use Rattle.laws.proofs.Meaning.{all-every}
 use Rattle.laws.proofs.Rows.{rows-at}
 use Rattle.laws.proofs.Tests.{or-left, or-right}
-use Rattle.text.specs.Bytes.{isUpper, isDot, isStar, isSpace, isHigh, isHostByte, lowerByte, classOf, entryOf, wholeTable, letter, dot, star, space, high}
+use Rattle.text.specs.Bytes.{isUpper, isDot, isStar, isSpace, isHostByte, lowerByte, classOf, entryOf, wholeTable, letter, dot, star, space, high}
 
 -- ---- one law carries what is tested on the first numbers to each of them
 pub tested : (f : ℕ → Bool) (n : ℕ) → all f (numbers 0 n) ≡ true → (x : ℕ) → x < n → f x ≡ true
@@ -87,10 +87,6 @@ class-star = class-is star isStar refl (not-above 42 (omega arith)) refl
 pub class-space : (x : ℕ) → eqb (classOf x) space ≡ isSpace x
 unfolding all rows run classOf
 class-space = class-is space isSpace refl (not-above 32 (omega arith)) refl
-
-pub class-high : (x : ℕ) → eqb (classOf x) high ≡ isHigh x
-unfolding all rows run classOf
-class-high = agree _ _ refl (λ x h. rw (class-above x h) (sym (le-leb 128 x h)))
 
 host-above : (x : ℕ) → 128 ≤ x → isHostByte x ≡ false
 host-above x h = rw (lt-leb x 90 (omega arith), lt-leb x 122 (omega arith), lt-leb x 57 (omega arith), and-false (leb 65 x), and-false (leb 97 x), and-false (leb 48 x), not-above 45 (omega arith) x h, not-above 95 (omega arith) x h, not-above 46 (omega arith) x h) refl

@@ -19,8 +19,6 @@ pub const STAR: u8 = 5;
 
 pub const SPACE: u8 = 6;
 
-pub const HIGH: u8 = 7;
-
 // How a pattern's letters are taken: as they stand, or lowered.
 pub enum Letters {
     AsGiven,
@@ -65,11 +63,17 @@ pub fn has_class(s: &[u8], class: u8) -> bool
     false
 }
 
-// Whether some byte is no ASCII character.
+// Whether some byte is no ASCII character. Neither a table nor a way out, so that many bytes are looked at at once.
 pub fn has_high(s: &[u8]) -> bool
     ensures { λ r. ⌜ r ≡ any isHigh (now (s .entry)) ⌝ }
 {
-    has_class(s, HIGH)
+    let mut high = false;
+    let mut i = 0;
+    while i < s.len() {
+        high = high | (128 <= s[i]);
+        i += 1;
+    }
+    high
 }
 
 fn is_host_byte(table: &[u16; 256], x: u8) -> bool

@@ -1,62 +1,40 @@
-use Rattle.sound.proofs.Steps.{fits-of}
+use mathlib.Core.List.{_++_}
+use Rattle.sound.specs.Search.{foundIn}
+use Rattle.sound.specs.Tables.{tablesOut, certStringsOut, certRangesOut, codesOver, marksOver, namesHigh}
+use Rattle.sound.proofs.Steps.{each-then, fits-front, fits-rest}
 use borrow.Author.Needs.{needs}
-use Prim.Native.Nat.{_-_}
-use mathlib.Core.Path.{_≡_, refl}
-use lib.ListN.{drop}
-use Rattle.sound.specs.declared.Found.the-variants.{Clear}
-use Rattle.sound.specs.declared.Block.the-variants.{Header}
-use Rattle.sound.specs.declared.Test.the-variants.{StringOut}
-use Rattle.sound.specs.Search.{foundEach, foundIn}
-use Rattle.sound.specs.Tables.{chainLines, line}
-use Rattle.sound.proofs.Steps.{each-more, each-done, fits-at}
 use Rattle.sound.proofs.chain_wrong.Statement.{statement}
 use Rattle.sound.proofs.chain_wrong.Tie as tie
 
-abbrev Inv-loop : tie.InvT-loop
-Inv-loop words bytes lines f₀ k₀ f k = foundEach (foundIn words bytes) Clear chainLines ≡ foundEach (foundIn words bytes) f (drop k chainLines)
+tables-out-requires : tie.Need-tables-out-requires
+tables-out-requires c κs = fits-front _ tablesOut (certStringsOut ++ (certRangesOut ++ (codesOver ++ (marksOver ++ namesHigh)))) (c .before .before .pre)
 
-abbrev μ-loop : tie.MeasureT-loop
-μ-loop words bytes lines f₀ k₀ f k = 43 - k
+cert-strings-out-requires : tie.Need-cert-strings-out-requires
+cert-strings-out-requires c κs = fits-front _ certStringsOut (certRangesOut ++ (codesOver ++ (marksOver ++ namesHigh))) (fits-rest _ tablesOut (certStringsOut ++ (certRangesOut ++ (codesOver ++ (marksOver ++ namesHigh)))) (c .before .before .before .pre))
 
-chain-lines-requires : tie.Need-chain-lines-requires Inv-loop μ-loop
-chain-lines-requires c κs = search needs
+cert-ranges-out-requires : tie.Need-cert-ranges-out-requires
+cert-ranges-out-requires c κs = fits-front _ certRangesOut (codesOver ++ (marksOver ++ namesHigh)) (fits-rest _ certStringsOut (certRangesOut ++ (codesOver ++ (marksOver ++ namesHigh))) (fits-rest _ tablesOut (certStringsOut ++ (certRangesOut ++ (codesOver ++ (marksOver ++ namesHigh)))) (c .before .before .before .before .pre)))
 
-loop-holds : tie.Need-loop-holds Inv-loop μ-loop
-loop-holds c = refl
+codes-over-requires : tie.Need-codes-over-requires
+codes-over-requires c κs = fits-front _ codesOver (marksOver ++ namesHigh) (fits-rest _ certRangesOut (codesOver ++ (marksOver ++ namesHigh)) (fits-rest _ certStringsOut (certRangesOut ++ (codesOver ++ (marksOver ++ namesHigh))) (fits-rest _ tablesOut (certStringsOut ++ (certRangesOut ++ (codesOver ++ (marksOver ++ namesHigh)))) (c .before .before .before .before .before .pre))))
 
-mul-l : tie.Need-mul-l Inv-loop μ-loop
-mul-l c = search needs
+marks-over-requires : tie.Need-marks-over-requires
+marks-over-requires c κs = fits-front _ marksOver namesHigh (fits-rest _ codesOver (marksOver ++ namesHigh) (fits-rest _ certRangesOut (codesOver ++ (marksOver ++ namesHigh)) (fits-rest _ certStringsOut (certRangesOut ++ (codesOver ++ (marksOver ++ namesHigh))) (fits-rest _ tablesOut (certStringsOut ++ (certRangesOut ++ (codesOver ++ (marksOver ++ namesHigh)))) (c .before .before .before .before .before .before .pre)))))
 
-array-copy-out-l : tie.Need-array-copy-out-l Inv-loop μ-loop
-array-copy-out-l c = search needs
+names-high-requires : tie.Need-names-high-requires
+names-high-requires c κs = fits-rest _ marksOver namesHigh (fits-rest _ codesOver (marksOver ++ namesHigh) (fits-rest _ certRangesOut (codesOver ++ (marksOver ++ namesHigh)) (fits-rest _ certStringsOut (certRangesOut ++ (codesOver ++ (marksOver ++ namesHigh))) (fits-rest _ tablesOut (certStringsOut ++ (certRangesOut ++ (codesOver ++ (marksOver ++ namesHigh)))) (c .before .before .before .before .before .before .before .pre)))))
 
-with-line-requires : tie.Need-with-line-requires Inv-loop μ-loop
-with-line-requires c κs = fits-of _ chainLines (line 0 Header 0 StringOut) _ _ (c .before .before .before .chain-lines .ensures) (c .before .before .before .before .before .before .pre) (c .before .loop-test .taken)
-
-add-k : tie.Need-add-k Inv-loop μ-loop
-add-k c = search needs
-
-loop-less : tie.Need-loop-less Inv-loop μ-loop
-loop-less c = search needs
-
-loop-again : tie.Need-loop-again Inv-loop μ-loop
-loop-again c = each-more (foundIn _ _) chainLines (line 0 Header 0 StringOut) _ _ (c .before .before .before .loop .inv) _ (c .before .before .loop-test .taken) (c .before .before .before .before .chain-lines .ensures) (c .with-line .ensures)
-
-returns : tie.Need-returns Inv-loop μ-loop
-returns c = each-done (foundIn _ _) chainLines (line 0 Header 0 StringOut) _ _ (c .before .loop .inv) (c .loop-test .left)
+returns : tie.Need-returns
+returns c = each-then (foundIn _ _) tablesOut (certStringsOut ++ (certRangesOut ++ (codesOver ++ (marksOver ++ namesHigh)))) _ (c .before .before .before .before .before .tables-out .ensures) (each-then (foundIn _ _) certStringsOut (certRangesOut ++ (codesOver ++ (marksOver ++ namesHigh))) _ (c .before .before .before .before .cert-strings-out .ensures) (each-then (foundIn _ _) certRangesOut (codesOver ++ (marksOver ++ namesHigh)) _ (c .before .before .before .cert-ranges-out .ensures) (each-then (foundIn _ _) codesOver (marksOver ++ namesHigh) _ (c .before .before .codes-over .ensures) (each-then (foundIn _ _) marksOver namesHigh _ (c .before .marks-over .ensures) (c .names-high .ensures)))))
 
 pub chain-wrong-spec : {M : Type 1} → statement M
 chain-wrong-spec =
     tie.close
     (tie.spec
-    Inv-loop
-    μ-loop
-    chain-lines-requires
-    loop-holds
-    mul-l
-    array-copy-out-l
-    with-line-requires
-    add-k
-    loop-less
-    loop-again
+    tables-out-requires
+    cert-strings-out-requires
+    cert-ranges-out-requires
+    codes-over-requires
+    marks-over-requires
+    names-high-requires
     returns)

@@ -1,60 +1,19 @@
-use borrow.Author.Needs.{needs}
-use Prim.Native.Nat.{_-_}
-use mathlib.Core.Path.{_≡_, refl}
-use lib.ListN.{drop}
 use Rattle.model.specs.Sections.{policyHeader}
-use Rattle.sound.specs.declared.Found.the-variants.{Clear}
-use Rattle.sound.specs.Search.{foundEach, foundSection}
-use Rattle.sound.specs.Tables.{policySections}
+use Rattle.sound.specs.Search.{foundSection}
 use Rattle.sound.proofs.Steps.{each-more, each-done}
+use borrow.Author.Needs.{needs}
 use Rattle.sound.proofs.policy_misplaced.Statement.{statement}
 use Rattle.sound.proofs.policy_misplaced.Tie as tie
 
-abbrev Inv-loop : tie.InvT-loop
-Inv-loop words sections f₀ k₀ f k = foundEach (foundSection policyHeader words) Clear policySections ≡ foundEach (foundSection policyHeader words) f (drop k policySections)
-
-abbrev μ-loop : tie.MeasureT-loop
-μ-loop words sections f₀ k₀ f k = 2 - k
-
-policy-sections-requires : tie.Need-policy-sections-requires Inv-loop μ-loop
-policy-sections-requires c κs = search needs
-
-loop-holds : tie.Need-loop-holds Inv-loop μ-loop
-loop-holds c = refl
-
-mul-s : tie.Need-mul-s Inv-loop μ-loop
-mul-s c = search needs
-
-array-copy-out-s : tie.Need-array-copy-out-s Inv-loop μ-loop
-array-copy-out-s c = search needs
-
-with-section-requires : tie.Need-with-section-requires Inv-loop μ-loop
+with-section-requires : tie.Need-with-section-requires
 with-section-requires c κs = search needs
 
-add-k : tie.Need-add-k Inv-loop μ-loop
-add-k c = search needs
+with-section-requires-2 : tie.Need-with-section-requires-2
+with-section-requires-2 c κs = search needs
 
-loop-less : tie.Need-loop-less Inv-loop μ-loop
-loop-less c = search needs
-
-loop-again : tie.Need-loop-again Inv-loop μ-loop
-loop-again c = each-more (foundSection policyHeader _) policySections (record { count = 0; size = 0 }) _ _ (c .before .before .before .loop .inv) _ (c .before .before .loop-test .taken) (c .before .before .before .before .policy-sections .ensures) (c .with-section .ensures)
-
-returns : tie.Need-returns Inv-loop μ-loop
-returns c = each-done (foundSection policyHeader _) policySections (record { count = 0; size = 0 }) _ _ (c .before .loop .inv) (c .loop-test .left)
+returns : tie.Need-returns
+returns c = each-more (foundSection policyHeader _) _ _ _ (c .before .with-section .ensures) (each-more (foundSection policyHeader _) _ _ _ (c .with-section2 .ensures) (each-done (foundSection policyHeader _)))
 
 pub policy-misplaced-spec : {M : Type 1} → statement M
 policy-misplaced-spec =
-    tie.close
-    (tie.spec
-    Inv-loop
-    μ-loop
-    policy-sections-requires
-    loop-holds
-    mul-s
-    array-copy-out-s
-    with-section-requires
-    add-k
-    loop-less
-    loop-again
-    returns)
+    tie.close (tie.spec with-section-requires with-section-requires-2 returns)
