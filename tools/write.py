@@ -3,11 +3,12 @@
 import pathlib
 import sys
 
+import bundles
 import byte_table
 import loops
 import searches
 
-MAKERS = [byte_table, loops, searches]
+MAKERS = [bundles, byte_table, loops, searches]
 TOP = pathlib.Path(__file__).resolve().parent.parent
 
 
@@ -17,13 +18,14 @@ def main():
         sys.exit(__doc__)
     stale = []
     for maker in MAKERS:
-        for name, text in maker.files().items():
+        for name, content in maker.files().items():
             path = TOP / name
-            if check and (not path.exists() or path.read_text(encoding="utf8") != text):
+            data = content if isinstance(content, bytes) else content.encode("utf8")
+            if check and (not path.exists() or path.read_bytes() != data):
                 stale.append(name)
             elif not check:
                 path.parent.mkdir(parents=True, exist_ok=True)
-                path.write_text(text, encoding="utf8")
+                path.write_bytes(data)
     if stale:
         sys.exit("not what tools/write.py writes (run it and commit): " + ", ".join(stale))
 

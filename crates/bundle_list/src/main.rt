@@ -1,0 +1,396 @@
+// Replays the bundles of the file `bundles` through the soundness checks, and writes how many got the answer that the file names.
+use libc::STDOUT_FILENO;
+use sound::Bundle;
+use sound::Checked;
+use sound::Place;
+
+// One more than a check takes, so that a bundle can be too large.
+const MOST_WORDS: u64 = 8193;
+
+const MOST_BYTES: u64 = 65537;
+
+// The answer to a bundle in numbers: the refusal (0 for sound), the bundle (0 chain, 1 policy), the kind of the place and its word.
+struct Answer {
+    number: u64,
+    bundle: u64,
+    kind: u64,
+    word: u64,
+}
+
+// A case: how many words and bytes the file gives, how many there are with the zeros behind them, and the answer that is due.
+struct Case {
+    words: usize,
+    all_words: usize,
+    bytes: usize,
+    all_bytes: u64,
+    due: Answer,
+}
+
+enum Word {
+    Is(u64),
+    End,
+    Cut,
+}
+
+enum Head {
+    Is(Case),
+    End,
+    Cut,
+}
+
+enum Reply {
+    Is(Answer),
+    Cut,
+}
+
+enum Turn {
+    Agreed,
+    Differed,
+    End,
+}
+
+// ---- reading the file
+
+fn wide(x: u8) -> u64 {
+    x as u64
+}
+
+// The low byte comes first.
+fn word_of(b: &[u8; 8]) -> u64 {
+    let low = wide(b[0]) | (wide(b[1]) << 8) | (wide(b[2]) << 16) | (wide(b[3]) << 24);
+    let high = wide(b[4]) | (wide(b[5]) << 8) | (wide(b[6]) << 16) | (wide(b[7]) << 24);
+    low | (high << 32)
+}
+
+fn read_word(fd: i32) -> Word {
+    let mut b = [0u8; 8];
+    let got = io::read_full(fd, &mut b);
+    if got == 0 {
+        return Word::End;
+    }
+    if got < 8 {
+        return Word::Cut;
+    }
+    Word::Is(word_of(&b))
+}
+
+// Reads n words. Answers whether there is room for them and the file had them.
+fn read_words(fd: i32, words: &mut [u64], n: usize) -> bool {
+    let mut i = 0;
+    while i < n {
+        if words.len() <= i {
+            return false;
+        }
+        let Word::Is(w) = read_word(fd) else {
+            return false;
+        };
+        words[i] = w;
+        i += 1;
+    }
+    true
+}
+
+// Reads n bytes. Answers whether there is room for them and the file had them.
+fn read_bytes(fd: i32, bytes: &mut [u8], n: usize) -> bool {
+    if bytes.len() < n {
+        return false;
+    }
+    io::read_full(fd, &mut bytes[..n]) == n
+}
+
+// The sum, or the most where that is less. The sum itself could wrap.
+fn sum_to(a: u64, b: u64, most: u64) -> u64 {
+    if most < a {
+        return most;
+    }
+    if most - a < b {
+        return most;
+    }
+    a + b
+}
+
+fn case_of(bundle: u64, rest: &[u64; 7]) -> Case {
+    let due = Answer {
+        number: rest[4],
+        bundle: bundle,
+        kind: rest[5],
+        word: rest[6],
+    };
+    Case {
+        words: rest[0] as usize,
+        all_words: sum_to(rest[0], rest[1], MOST_WORDS) as usize,
+        bytes: rest[2] as usize,
+        all_bytes: sum_to(rest[2], rest[3], MOST_BYTES),
+        due: due,
+    }
+}
+
+fn read_rest(fd: i32, bundle: u64) -> Head {
+    let mut rest = [0u64; 7];
+    if !read_words(fd, &mut rest, 7) {
+        return Head::Cut;
+    }
+    Head::Is(case_of(bundle, &rest))
+}
+
+fn read_head(fd: i32) -> Head {
+    let first = read_word(fd);
+    match first {
+        Word::Is(bundle) => read_rest(fd, bundle),
+        Word::End => Head::End,
+        Word::Cut => Head::Cut,
+    }
+}
+
+// ---- the answer of a check
+
+fn placed(number: u64, bundle: u64, p: Place) -> Answer {
+    match p {
+        Place::Nothing => Answer {
+            number: number,
+            bundle: bundle,
+            kind: 0,
+            word: 0,
+        },
+        Place::Word(w) => Answer {
+            number: number,
+            bundle: bundle,
+            kind: 1,
+            word: w as u64,
+        },
+        Place::Certificate(_) => Answer {
+            number: number,
+            bundle: bundle,
+            kind: 2,
+            word: 0,
+        },
+        Place::Pair(_, _) => Answer {
+            number: number,
+            bundle: bundle,
+            kind: 3,
+            word: 0,
+        },
+    }
+}
+
+fn bundle_number(b: Bundle) -> u64 {
+    match b {
+        Bundle::Chain => 0,
+        Bundle::Policy => 1,
+    }
+}
+
+fn answer_of(bundle: u64, c: Checked) -> Answer {
+    match c {
+        Checked::Sound => Answer {
+            number: 0,
+            bundle: bundle,
+            kind: 0,
+            word: 0,
+        },
+        Checked::Refused(n, b, p) => placed(n, bundle_number(b), p),
+    }
+}
+
+fn words_to(words: &[u64], n: usize) -> &[u64] {
+    if n < words.len() { &words[..n] } else { words }
+}
+
+fn check(bundle: u64, words: &[u64], bytes: &[u8]) -> Answer {
+    if bundle == 0 {
+        return answer_of(bundle, sound::check_chain(words, bytes));
+    }
+    answer_of(bundle, sound::check_policy(words, bytes))
+}
+
+fn same(a: Answer, b: Answer) -> bool {
+    (a.number == b.number) & (a.bundle == b.bundle) & (a.kind == b.kind) & (a.word == b.word)
+}
+
+// ---- writing
+
+fn print(text: &[u8]) {
+    io::write_all(STDOUT_FILENO, text);
+}
+
+fn print_number(n: u64) {
+    io::print_decimal(STDOUT_FILENO, n);
+}
+
+fn print_place(kind: u64, word: u64) {
+    match kind {
+        0 => print(b"nothing"),
+        1 => {
+            print(b"word ");
+            print_number(word);
+        }
+        2 => print(b"a certificate"),
+        _ => print(b"a pair"),
+    }
+}
+
+fn print_bundle(bundle: u64) {
+    match bundle {
+        0 => print(b" of the chain at "),
+        _ => print(b" of the policy at "),
+    }
+}
+
+fn print_answer(a: Answer) {
+    if a.number == 0 {
+        print(b"sound");
+        return;
+    }
+    print(b"refusal ");
+    print_number(a.number);
+    print_bundle(a.bundle);
+    print_place(a.kind, a.word);
+}
+
+fn print_difference(index: u64, due: Answer, got: Answer) {
+    print(b"bundle ");
+    print_number(index);
+    print(b": expected ");
+    print_answer(due);
+    print(b", got ");
+    print_answer(got);
+    print(b"\n");
+}
+
+fn print_cut(index: u64) {
+    print(b"bundle ");
+    print_number(index);
+    print(b" is cut off\n");
+}
+
+fn print_row(number: u64, chain: u64, policy: u64) {
+    if number == 0 {
+        print(b"sound");
+    } else {
+        print(b"refusal ");
+        print_number(number);
+    }
+    print(b": chain ");
+    print_number(chain);
+    print(b", policy ");
+    print_number(policy);
+    print(b"\n");
+}
+
+// Of refusal 1 no check of a bundle speaks.
+fn print_table(chain: &[u64; 9], policy: &[u64; 9]) {
+    print_row(0, chain[0], policy[0]);
+    let mut n: usize = 2;
+    while n < 9 {
+        print_row(n as u64, chain[n], policy[n]);
+        n += 1;
+    }
+}
+
+fn print_total(all: u64, agreed: u64) {
+    let differed = if agreed < all { all - agreed } else { 0 };
+    print_number(differed);
+    print(b" with another answer\n");
+    print_number(all);
+    print(b" bundles, ");
+    print_number(agreed);
+    print(b" as expected\n");
+}
+
+// ---- the cases
+
+fn count(counts: &mut [u64; 9], number: u64) {
+    if 9 <= number {
+        return;
+    }
+    let at = number as usize;
+    let n = counts[at];
+    if n < u64::MAX {
+        counts[at] = n + 1;
+    }
+}
+
+fn compare(
+    index: u64,
+    due: Answer,
+    got: Answer,
+    chain: &mut [u64; 9],
+    policy: &mut [u64; 9],
+) -> Turn {
+    if !same(due, got) {
+        print_difference(index, due, got);
+        return Turn::Differed;
+    }
+    if due.bundle == 0 {
+        count(chain, due.number);
+    } else {
+        count(policy, due.number);
+    }
+    Turn::Agreed
+}
+
+fn read_and_check(fd: i32, case: Case) -> Reply {
+    let mut words = [0u64; 8193];
+    let mut bytes = [0u8; 65537];
+    if !read_words(fd, &mut words, case.words) {
+        return Reply::Cut;
+    }
+    if !read_bytes(fd, &mut bytes, case.bytes) {
+        return Reply::Cut;
+    }
+    let all_words = words_to(&words, case.all_words);
+    let all_bytes = table::cut(&bytes, 0, case.all_bytes);
+    Reply::Is(check(case.due.bundle, all_words, all_bytes))
+}
+
+fn replay(fd: i32, index: u64, case: Case, chain: &mut [u64; 9], policy: &mut [u64; 9]) -> Turn {
+    let reply = read_and_check(fd, case);
+    match reply {
+        Reply::Is(got) => compare(index, case.due, got, chain, policy),
+        Reply::Cut => {
+            print_cut(index);
+            Turn::End
+        }
+    }
+}
+
+fn replay_next(fd: i32, index: u64, chain: &mut [u64; 9], policy: &mut [u64; 9]) -> Turn {
+    let head = read_head(fd);
+    match head {
+        Head::Is(case) => replay(fd, index, case, chain, policy),
+        Head::End => Turn::End,
+        Head::Cut => {
+            print_cut(index);
+            Turn::End
+        }
+    }
+}
+
+// A proved loop has to end, and nothing says that a file does: it counts up to a number that no run reaches.
+fn replay_all(fd: i32) {
+    let mut chain = [0u64; 9];
+    let mut policy = [0u64; 9];
+    let mut all: u64 = 0;
+    let mut agreed: u64 = 0;
+    while all < u64::MAX {
+        let turn = replay_next(fd, all, &mut chain, &mut policy);
+        match turn {
+            Turn::Agreed => agreed += 1,
+            Turn::Differed => {}
+            Turn::End => break,
+        }
+        all += 1;
+    }
+    print_table(&chain, &policy);
+    print_total(all, agreed);
+}
+
+fn main() {
+    let fd = os::open_read(b"bundles");
+    if fd < 0 {
+        os::fail(b"bundles");
+        return;
+    }
+    replay_all(fd);
+    libc::close(fd);
+}
