@@ -2,4 +2,5 @@ pub mod Fitting
 pub mod Order
 pub mod Reasons
 pub mod Steps
+pub mod Theorems
 pub mod Verdicts
