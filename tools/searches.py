@@ -87,8 +87,8 @@ def of_sections(name, header, count):
 def of_groups(name, groups):
     lists = [camel(group) for group in groups]
     rest = lambda k: lists[k] if k == len(lists) - 1 else f"({lists[k]} ++ {rest(k + 1)})"
-    uses = [
-        "mathlib.Core.List.{_++_}",
+    uses = ["mathlib.Core.List.{_++_}"] if len(lists) > 2 else []
+    uses += [
         "Rattle.sound.specs.Search.{foundIn}",
         "Rattle.sound.specs.Tables.{%s}" % ", ".join(lists),
         "Rattle.sound.proofs.Steps.{each-then, fits-front, fits-rest}",

@@ -1,15 +1,15 @@
 -- The laws of every loop over rows. The invariant is that the whole is what the rest answers, so nothing has to be shown before the first turn (none yet);
 -- `-next` is one more turn, `-here` the turn at which the answer is found, `-none` the end. Assumes nothing.
-use Prim.Native.Nat.{ℕ, zero, suc, _+_, _-_, _≤_, _<_}
+use Prim.Native.Nat.{ℕ, suc, _+_, _-_, _≤_, _<_}
 use native.Mathlib.Omega.{arith}
 use native.Mathlib.Decide.{decLt}
 use mathlib.Core.Path.{_≡_, refl, sym, _∙_}
-use mathlib.Core.List.{List, [], _∷_}
+use mathlib.Core.List.{List, []}
 use mathlib.Core.Bool.{Bool, true, false, _&&_, _||_, and-true, and-assoc}
 use borrow.Author.Tests.{le-leb, lt-leb}
 use lib.Dec.{leb}
 use lib.ListN.{length}
-use Rattle.laws.specs.Lists.{run, rows, any, all, each, front, first, least, pick}
+use Rattle.laws.specs.Lists.{rows, any, all, each, front, first, least}
 use Rattle.laws.proofs.Rows.{rows-step, rows-end, at, list-rows}
 
 -- r is what the test answers at i; `whole` is what the loop is to answer

@@ -6,7 +6,7 @@ use mathlib.Core.Path.{_≡_, refl, sym, ap, _∙_}
 use mathlib.Core.List.{List, [], _∷_, map}
 use mathlib.Core.Bool.{Bool, true, false, not, _&&_, _||_, true≢false, false≢true, or-true}
 use lib.ListN.{length, getD}
-use Rattle.laws.specs.Lists.{run, rows, any, all, each, first, least, pick, Some, Every, Least}
+use Rattle.laws.specs.Lists.{run, rows, any, all, first, least, pick, Some, Every, Least}
 use Rattle.laws.proofs.Rows.{at, list-rows}
 use Rattle.laws.proofs.Tests.{and-left, and-right}
 

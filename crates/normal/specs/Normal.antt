@@ -1,5 +1,4 @@
 -- The normal form of a text (document 01, "Own text rules", `normalize_string`). Assumes nothing.
-use Prim.Native.Nat.{ℕ}
 use mathlib.Core.List.{[], _∷_}
 use mathlib.Core.Bool.{Bool, false, _&&_}
 use Rattle.laws.specs.Lists.{all, eqList, pick}

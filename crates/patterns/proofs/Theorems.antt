@@ -1,13 +1,13 @@
 -- What the definitions of patterns and ranges mean: laws that test them. Assumes nothing.
-use Prim.Native.Nat.{ℕ, zero, suc, _+_, _-_, _≤_, _<_}
+use Prim.Native.Nat.{ℕ, _+_, _-_, _<_}
 use native.Mathlib.Omega.{arith}
 use mathlib.Core.Path.{_≡_, refl, sym, ap, _∙_}
 use mathlib.Core.Logic.{_⊎_, inl, inr, ⊎-elim}
-use mathlib.Core.List.{List, [], _∷_, _++_}
-use mathlib.Core.Bool.{Bool, true, false, not, _&&_, _||_, false≢true, or-true}
+use mathlib.Core.List.{List, [], _++_}
+use mathlib.Core.Bool.{Bool, true, false, _&&_, _||_, or-true}
 use lib.Bits.{bitAnd}
 use lib.Dec.{ltb, eqb}
-use lib.ListN.{length, getD, take, drop, length-append, List·getD-append}
+use lib.ListN.{length, getD, take, length-append, List·getD-append}
 use lib.Seq.{take-at}
 use borrow.Author.Tests.{lt-ltb, ltb-true, eq-eqb, eqb-true, not-true}
 use Rattle.laws.specs.Lists.{any, each, eqList}
@@ -15,9 +15,9 @@ use Rattle.laws.proofs.Equal.{equal-list, list-equal}
 use Rattle.laws.proofs.Meaning.{every-all}
 use Rattle.laws.proofs.Tests.{and-left, and-right, pick-true, pick-false}
 use Rattle.text.specs.Bytes.{isDot, lowerByte}
-use Rattle.text.specs.Texts.{Text, quoted, lowered, startsWith, endsWith, covers}
+use Rattle.text.specs.Texts.{Text, quoted, lowered, startsWith, endsWith}
 use Rattle.text.proofs.Theorems.{lowered-twice, then-starts, then-ends, ends-then, empty-covers}
-use Rattle.patterns.specs.Patterns.{oneLabel, matchName, finalDotOff, cleanName, permitName, hostText, checkValidPattern, validNameConstraint}
+use Rattle.patterns.specs.Patterns.{oneLabel, matchName, finalDotOff, cleanName, permitName, validNameConstraint}
 use Rattle.patterns.specs.Address.{maskedEqual, agreesAt, inRange, ipAddrInRange}
 use Rattle.patterns.proofs.Hosts.{lowered-clean}
 use Rattle.patterns.proofs.Ranges.{each-byte}

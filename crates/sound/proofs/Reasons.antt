@@ -1,20 +1,19 @@
 -- The tests of a word, as the code asks them. Assumes nothing.
-use Prim.Native.Nat.{ℕ, zero, suc, _+_, _-_, _≤_, _<_}
+use Prim.Native.Nat.{ℕ, _+_, _-_, _≤_, _<_}
 use native.Mathlib.Omega.{arith}
 use mathlib.Core.Path.{_≡_, refl, sym, ap, _∙_}
 use native.Mathlib.Decide.{decLt}
 use mathlib.Core.Logic.{_⊎_, inl, inr, ⊎-elim}
 use mathlib.Core.List.{List}
-use mathlib.Core.Bool.{Bool, true, false, not, _&&_, _||_, or-false}
+use mathlib.Core.Bool.{Bool, true, false, _&&_, _||_, or-false}
 use lib.Dec.{eqb, ltb}
 use lib.ListN.{length}
-use borrow.Author.Tests.{lt-ltb, le-ltb, eq-eqb, ne-eqb}
-use Rattle.table.specs.Table.{word, countOf}
-use Rattle.table.specs.declared.Section.{Section}
+use borrow.Author.Tests.{lt-ltb, le-ltb, ne-eqb}
+use Rattle.table.specs.Table.{word}
 use Rattle.table.proofs.Laws.{word-past}
 use Rattle.model.specs.Sections.{rdns}
 use Rattle.sound.specs.declared.Test.{Test}
-use Rattle.sound.specs.Wrong.{noString, noRange, there, highString, stringOut, nameOut, wrong}
+use Rattle.sound.specs.Wrong.{noString, noRange, there, highString, nameOut, wrong}
 
 -- a test that is known: what it says is what was asked
 pub by-test : (t s : Test) (w b : List ℕ) (q j : ℕ) {r : Bool} → t ≡ s → r ≡ wrong s w b q j → r ≡ wrong t w b q j

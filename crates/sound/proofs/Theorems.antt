@@ -1,7 +1,7 @@
 -- What a sound bundle gives to its readers: every section lies in the words, and every word that a line of the tables speaks of is right. Assumes nothing.
 use Prim.Native.Nat.{ℕ, zero, suc, _+_, _*_, _<_, _≤_}
 use native.Mathlib.Omega.{arith}
-use mathlib.Core.Path.{_≡_, refl, sym, _∙_}
+use mathlib.Core.Path.{_≡_, refl, sym}
 use mathlib.Core.List.{List, [], _∷_, List·Memᴰ}
 use mathlib.Core.Bool.{Bool, true, false, not, _&&_, _||_, true≢false}
 use lib.Dec.{eqb, leb, ltb}
@@ -14,7 +14,7 @@ use Rattle.table.specs.Table.{word, countOf, offsetOf, strings, stringOf}
 use Rattle.table.specs.declared.Section.{Section}
 use Rattle.model.specs.Sections.{rdns}
 use Rattle.sound.specs.declared.Line.{Line}
-use Rattle.sound.specs.Wrong.{noString, noOptional, noRange, over, there, highString, stringOut, nameOut, wrong}
+use Rattle.sound.specs.Wrong.{noString, noOptional, noRange, over, highString, stringOut, nameOut, wrong}
 use Rattle.sound.specs.Fault.{Layout, Fault, size, otherEdition, section, row, edition, rowsOf, rowAt, misplaced, InLine}
 
 untrue : (x : Bool) → (x ≡ true → ⊥) → x ≡ false

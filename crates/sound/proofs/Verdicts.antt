@@ -1,8 +1,8 @@
 -- From what is found to the answer, for any layout whose lines are numbered from 5 on. Assumes nothing.
-use Prim.Native.Nat.{ℕ, zero, suc, _<_, _≤_}
+use Prim.Native.Nat.{ℕ, _<_, _≤_}
 use native.Mathlib.Omega.{arith}
 use native.Mathlib.Decide.{decLt}
-use mathlib.Core.Path.{_≡_, refl, sym, ap, _∙_}
+use mathlib.Core.Path.{_≡_, refl, sym, _∙_}
 use mathlib.Core.Logic.{_⊎_, inl, inr, ⊎-elim}
 use mathlib.Core.List.{List, List·Memᴰ}
 use mathlib.Core.Bool.{Bool, true, false, not, true≢false}
@@ -13,14 +13,13 @@ use Rattle.sound.specs.declared.Line.{Line}
 use Rattle.sound.specs.declared.Found.{Found}
 use Rattle.sound.specs.declared.Found.the-variants.{Clear, At}
 use Rattle.sound.specs.declared.Bundle.{Bundle}
-use Rattle.sound.specs.declared.Place.{Place}
 use Rattle.sound.specs.declared.Place.the-variants.{Nothing, Word, Certificate, Pair}
 use Rattle.sound.specs.declared.Checked.{Checked}
 use Rattle.sound.specs.declared.Checked.the-variants.{Sound, Refused}
 use Rattle.sound.specs.Answer.{Before, First, Verdict}
-use Rattle.sound.specs.Fault.{Layout, Fault, size, otherEdition, section, row, edition, misplaced, InLine}
+use Rattle.sound.specs.Fault.{Layout, Fault, size, otherEdition, section, row, edition, misplaced}
 use Rattle.sound.specs.Search.{foundIn, foundSection, foundEach}
-use Rattle.sound.proofs.Order.{FirstOf, Some, all-first, first-same, LineFault, found-first, SectionFault, section-first}
+use Rattle.sound.proofs.Order.{FirstOf, all-first, first-same, LineFault, found-first, SectionFault, section-first}
 
 module _ (y : Layout) (w b : List ℕ) (from5 : (l : Line) → List·Memᴰ l (y .lines) → 5 ≤ l .number) where
   -- ---- the faults by stage

@@ -3,7 +3,6 @@ use Prim.Native.Nat.{ℕ, _<_}
 use mathlib.Core.Path.{_≡_}
 use mathlib.Core.Logic.{_⊎_}
 use mathlib.Core.List.{List}
-use Rattle.table.specs.declared.CertPos.{CertPos}
 use Rattle.sound.specs.declared.Bundle.{Bundle}
 use Rattle.sound.specs.declared.Bundle.the-variants.{Chain, Policy}
 use Rattle.sound.specs.declared.Place.{Place}

@@ -1,7 +1,7 @@
 -- How the code searches for the first fault. Only private contracts cite this; that it finds the first is proved in proofs/. Assumes nothing.
 use Prim.Native.Nat.{ℕ, _+_}
 use mathlib.Core.List.{List, [], _∷_}
-use mathlib.Core.Bool.{Bool, _&&_, _||_}
+use mathlib.Core.Bool.{_&&_, _||_}
 use lib.Dec.{eqb, ltb}
 use Rattle.laws.specs.Lists.{least, pick}
 use Rattle.table.specs.declared.Section.{Section}

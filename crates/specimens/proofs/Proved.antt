@@ -2,7 +2,6 @@
 use native.Mathlib.Omega.{arith}
 use mathlib.Core.Path.{_≡_, refl}
 use mathlib.Core.Bool.{false}
-use lib.Dec.{eqb}
 use Rattle.laws.specs.Lists.{any, all, each, rows, run}
 use Rattle.text.specs.Bytes.{lowerByte}
 use Rattle.text.specs.Texts.{Text, quoted, lowered, startsWith, endsWith, covers}

@@ -2,13 +2,12 @@
 use Prim.Native.Nat.{ℕ, _+_, _-_, _*_, _/_, _≤_, _<_, min}
 use native.Mathlib.Omega.{arith}
 use native.Mathlib.Nat.{add-sub-cancel-left, div-lt-iff-lt-mul, le-div-iff-mul-le, zero-mul, add-zero}
-use mathlib.Core.Path.{_≡_, refl, sym, ap, _∙_}
+use mathlib.Core.Path.{_≡_, refl, sym, _∙_}
 use mathlib.Core.List.{List, []}
 use lib.ListN.{length, take, drop, length-drop, drop-of-length-le, List·getD-eq-default}
 use lib.Seq.{take-all, take-nil}
-use Rattle.table.specs.Table.{word, part, countOf, offsetOf, fieldOf, strings, stringOf, rangeOf}
+use Rattle.table.specs.Table.{word, part, offsetOf, fieldOf, rangeOf}
 use Rattle.table.specs.declared.Section.{Section}
-use Rattle.table.specs.declared.Range.{Range}
 
 pub word-past : (w : List ℕ) (i : ℕ) → length w ≤ i → 0 ≡ word w i
 unfolding word

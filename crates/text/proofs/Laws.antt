@@ -1,15 +1,15 @@
 -- Texts: what lowering keeps, beginnings and ends, covering. Assumes nothing.
-use Prim.Native.Nat.{ℕ, zero, suc, _+_, _-_, _≤_, _<_}
+use Prim.Native.Nat.{ℕ, suc, _+_, _-_, _≤_, _<_}
 use native.Mathlib.Omega.{arith}
 use native.Mathlib.Decide.{decLt}
-use mathlib.Core.Path.{_≡_, refl, sym, ap, ap₂, _∙_}
-use mathlib.Core.List.{List, [], _∷_, _++_, map}
+use mathlib.Core.Path.{_≡_, refl, sym, _∙_}
+use mathlib.Core.List.{[], _∷_, _++_}
 use mathlib.Core.Bool.{Bool, true, false, _&&_, _||_, and-true}
 use lib.Dec.{leb, eqb}
 use lib.ListN.{length, getD, drop, take, drop-of-length-le, length-map, List·getD-map}
 use lib.Seq.{drop-cons}
 use borrow.Author.Tests.{le-leb, lt-leb}
-use Rattle.laws.specs.Lists.{each, eqList, any, isEmpty}
+use Rattle.laws.specs.Lists.{each, eqList}
 use Rattle.laws.proofs.Equal.{each-map, each-length}
 use Rattle.laws.proofs.Parts.{rest, map-drop, map-take}
 use Rattle.laws.proofs.Tests.{eqb-sym}

@@ -3,17 +3,17 @@ use Prim.Native.Nat.{ℕ, _+_, _-_}
 use native.Mathlib.Omega.{arith}
 use mathlib.Core.Path.{_≡_, refl, sym, ap, _∙_}
 use mathlib.Core.List.{[], _∷_, _++_, append-nil, append-assoc}
-use mathlib.Core.Bool.{Bool, true, false, _&&_, _||_, or-true}
+use mathlib.Core.Bool.{Bool, true, false, _||_, or-true}
 use lib.Dec.{leb}
 use lib.ListN.{length, take, drop, take-append-drop, length-append}
 use lib.Seq.{take-append-seam, drop-at}
-use borrow.Author.Tests.{le-leb, leb-true}
+use borrow.Author.Tests.{le-leb}
 use Rattle.laws.specs.Lists.{eqList}
 use Rattle.laws.proofs.Equal.{equal-list, list-equal}
 use Rattle.laws.proofs.Tests.{and-left, and-right}
 use Rattle.text.specs.Bytes.{isUpper, lowerByte}
 use Rattle.text.specs.Texts.{Text, quoted, lowered, taken, startsWith, endsWith, covers, matchDnsName}
-use Rattle.text.specs.declared.Letters.the-variants.{AsGiven, Lowered}
+use Rattle.text.specs.declared.Letters.the-variants.{AsGiven}
 use Rattle.text.proofs.Chars.{lower-idempotent}
 
 -- ---- lowering

@@ -1,9 +1,9 @@
 use Rattle.sound.specs.Search.{firstRow}
 use Rattle.sound.proofs.Steps.{row-first, row-next, row-fits, at-row}
 use borrow.Author.Needs.{needs}
-use Prim.Native.Nat.{ℕ, _+_, _*_, _-_, _≤_}
+use Prim.Native.Nat.{_+_, _*_, _-_, _≤_}
 use native.Mathlib.Omega.{arith}
-use mathlib.Core.Path.{_≡_, refl, sym, _∙_}
+use mathlib.Core.Path.{_≡_, refl}
 use lib.ListN.{length}
 use Rattle.laws.specs.Lists.{least}
 use Rattle.laws.proofs.Loops.{least-here, least-next, least-none}

@@ -1,9 +1,6 @@
 use Rattle.sound.specs.Wrong.{noRange}
 use Rattle.sound.proofs.Reasons.{sum-past, sum-first, sum-both}
-use mathlib.Core.Path.{_∙_, ap}
-use lib.Dec.{ltb}
 use native.Mathlib.Omega.{arith}
-use Rattle.table.specs.Table.{countOf}
 use borrow.Author.Needs.{needs}
 use Rattle.sound.proofs.no_range.Statement.{statement}
 use Rattle.sound.proofs.no_range.Tie as tie

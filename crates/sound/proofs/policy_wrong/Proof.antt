@@ -1,4 +1,3 @@
-use mathlib.Core.List.{_++_}
 use Rattle.sound.specs.Search.{foundIn}
 use Rattle.sound.specs.Tables.{listsOut, entriesHigh}
 use Rattle.sound.proofs.Steps.{each-then, fits-front, fits-rest}

@@ -1,5 +1,4 @@
 use native.Mathlib.Omega.{arith}
-use Rattle.sound.specs.Fault.{Fits}
 use Rattle.sound.proofs.Steps.{line-found, line-clear, row-fits, fits-rows, fits-as}
 use borrow.Author.Needs.{needs}
 use Rattle.sound.proofs.with_line.Statement.{statement}
