@@ -10,155 +10,126 @@ fn proved(w: &[u64], b: &[u8]) -> u64 {
     unsafe { chain_check(w.as_ptr(), w.len(), b.as_ptr(), b.len()) }
 }
 
-// The lowest wrong word so far.
-struct Lowest(usize);
-
-impl Lowest {
-    fn note(&mut self, wrong: bool, p: usize) {
-        if wrong && p < self.0 {
-            self.0 = p;
-        }
-    }
-
-    fn refusal(&self, number: u64) -> Option<u64> {
-        (self.0 != usize::MAX).then_some((number << 16) + self.0 as u64)
-    }
-}
-
-const MARKS: [usize; 9] = [15, 19, 21, 24, 28, 30, 33, 38, 39];
-
-// The rows of the section whose count is word c, each with the word at which it begins.
-fn rows(w: &[u64], c: usize, size: usize) -> impl Iterator<Item = (usize, &[u64])> {
-    let at = w[c + 1] as usize;
-    w[at..at + w[c] as usize * size].chunks_exact(size).enumerate().map(move |(i, row)| (at + size * i, row))
-}
-
-fn out(first: u64, n: u64, count: u64) -> bool {
-    first > count || n > count - first
-}
-
-fn misplaced(w: &[u64]) -> Option<u64> {
-    let total = w.len() as u64;
-    for (c, size) in [(1, 2), (3, 2), (5, 2), (7, 3), (9, 1), (11, 41)] {
-        let (n, at) = (w[c], w[c + 1]);
-        if at < 16 || at > total || n > (total - at) / size {
-            return Some((4 << 16) + c as u64);
-        }
-    }
-    None
-}
-
-fn tables_out(w: &[u64], b: &[u8], low: &mut Lowest) {
-    let strings = w[1];
-    low.note(w[13] > strings, 13);
-    for (q, r) in rows(w, 1, 2) {
-        low.note(out(r[0], r[1], b.len() as u64), q);
-    }
-    for (q, r) in rows(w, 3, 2) {
-        low.note(r[0] >= strings, q);
-        low.note(r[1] >= strings, q + 1);
-    }
-    for (q, r) in rows(w, 5, 2) {
-        low.note(out(r[0], r[1], w[3]), q);
-    }
-    for (q, r) in rows(w, 7, 3) {
-        match r[0] {
-            0 | 2 => low.note(r[1] >= strings, q + 1),
-            1 => low.note(out(r[1], r[2], w[5]), q + 1),
-            _ => {}
-        }
-    }
-}
-
-fn certs_out(w: &[u64], low: &mut Lowest) {
-    let (strings, rdns, names, usages) = (w[1], w[5], w[7], w[9]);
-    for (q, r) in rows(w, 11, 41) {
-        for k in [0, 2, 3, 4] {
-            low.note(r[k] >= strings, q + k);
-        }
-        for k in [7, 9] {
-            low.note(out(r[k], r[k + 1], rdns), q + k);
-        }
-        for k in [13, 14] {
-            low.note(r[k] > strings, q + k);
-        }
-        for k in [16, 17, 18] {
-            low.note(r[15] != 0 && r[k] > strings, q + k);
-        }
-        low.note(r[19] != 0 && r[20] >= strings, q + 20);
-        low.note(r[21] != 0 && out(r[22], r[23], usages), q + 22);
-        low.note(r[30] != 0 && out(r[31], r[32], names), q + 31);
-        for k in [34, 36] {
-            low.note(r[33] != 0 && out(r[k], r[k + 1], names), q + k);
-        }
-    }
-}
-
-fn codes_over(w: &[u64], low: &mut Lowest) {
-    for (q, r) in rows(w, 7, 3) {
-        low.note(r[0] > 4, q);
-    }
-    for (q, r) in rows(w, 9, 1) {
-        low.note(r[0] > 7, q);
-    }
-    for (q, r) in rows(w, 11, 41) {
-        low.note(r[1] > u32::MAX as u64, q + 1);
-        low.note(r[11] > 2, q + 11);
-        for k in MARKS {
-            low.note(r[k] > 3, q + k);
-        }
-        for k in [25, 26] {
-            low.note(r[24] != 0 && r[k] > 1, q + k);
-        }
-        low.note(r[28] != 0 && r[29] > 511, q + 29);
-        low.note(r[40] > 1 || r[40] == 0 && MARKS.iter().any(|k| r[*k] != 0), q + 40);
-    }
-}
-
-fn names_high(w: &[u64], b: &[u8], low: &mut Lowest) {
-    let high = |n: u64| {
-        let q = w[2] as usize + 2 * n as usize;
-        !b[w[q] as usize..(w[q] + w[q + 1]) as usize].is_ascii()
-    };
-    low.note(w[13] != 0 && high(w[13] - 1), 13);
-    for (q, r) in rows(w, 3, 2) {
-        low.note(high(r[1]), q + 1);
-    }
-    for (q, r) in rows(w, 7, 3) {
-        low.note(r[0] == 0 && high(r[1]), q + 1);
-    }
-}
-
-// The first refusal of a number from 4 on, each number asked only where none below it fits.
-fn refused(w: &[u64], b: &[u8]) -> Option<u64> {
-    let mut low = Lowest(usize::MAX);
-    misplaced(w)
-        .or_else(|| {
-            tables_out(w, b, &mut low);
-            certs_out(w, &mut low);
-            low.refusal(5)
-        })
-        .or_else(|| {
-            codes_over(w, &mut low);
-            low.refusal(6)
-        })
-        .or_else(|| {
-            names_high(w, b, &mut low);
-            low.refusal(7)
-        })
-        .or_else(|| (w[14] != 0).then_some((8 << 16) + 14))
-}
-
 // The same check as one would write it in Rust: 0 if sound, else the number times 2^16 plus the word.
+// One long function on purpose: split into small ones it ran about a tenth slower, and the proved check would look better than it is.
 #[inline(never)]
 fn plain(w: &[u64], b: &[u8]) -> u64 {
+    let total = w.len() as u64;
     if w.len() < 16 || w.len() > 8192 || b.len() > 65536 || w[11] > 16 {
         return 2 << 16;
     }
     if w[0] != 1 {
         return 3 << 16;
     }
-    refused(w, b).unwrap_or(0)
+    for (c, size) in [(1, 2), (3, 2), (5, 2), (7, 3), (9, 1), (11, 41)] {
+        let (n, at) = (w[c], w[c + 1]);
+        if at < 16 || at > total || n > (total - at) / size {
+            return (4 << 16) + c as u64;
+        }
+    }
+    let rows = |c: usize, size: usize| {
+        let at = w[c + 1] as usize;
+        w[at..at + w[c] as usize * size].chunks_exact(size).enumerate().map(move |(i, row)| (at + size * i, row))
+    };
+    let (strings, attributes, rdns, names, usages) = (w[1], w[3], w[5], w[7], w[9]);
+    let out = |first: u64, n: u64, count: u64| first > count || n > count - first;
+    let mut at = usize::MAX;
+    let mut note = |wrong: bool, p: usize| {
+        if wrong && p < at {
+            at = p;
+        }
+    };
+    note(w[13] > strings, 13);
+    for (q, r) in rows(1, 2) {
+        note(out(r[0], r[1], b.len() as u64), q);
+    }
+    for (q, r) in rows(3, 2) {
+        note(r[0] >= strings, q);
+        note(r[1] >= strings, q + 1);
+    }
+    for (q, r) in rows(5, 2) {
+        note(out(r[0], r[1], attributes), q);
+    }
+    for (q, r) in rows(7, 3) {
+        match r[0] {
+            0 | 2 => note(r[1] >= strings, q + 1),
+            1 => note(out(r[1], r[2], rdns), q + 1),
+            _ => {}
+        }
+    }
+    for (q, r) in rows(11, 41) {
+        for k in [0, 2, 3, 4] {
+            note(r[k] >= strings, q + k);
+        }
+        for k in [7, 9] {
+            note(out(r[k], r[k + 1], rdns), q + k);
+        }
+        for k in [13, 14] {
+            note(r[k] > strings, q + k);
+        }
+        for k in [16, 17, 18] {
+            note(r[15] != 0 && r[k] > strings, q + k);
+        }
+        note(r[19] != 0 && r[20] >= strings, q + 20);
+        note(r[21] != 0 && out(r[22], r[23], usages), q + 22);
+        note(r[30] != 0 && out(r[31], r[32], names), q + 31);
+        for k in [34, 36] {
+            note(r[33] != 0 && out(r[k], r[k + 1], names), q + k);
+        }
+    }
+    if at != usize::MAX {
+        return (5 << 16) + at as u64;
+    }
+    let mut note = |wrong: bool, p: usize| {
+        if wrong && p < at {
+            at = p;
+        }
+    };
+    for (q, r) in rows(7, 3) {
+        note(r[0] > 4, q);
+    }
+    for (q, r) in rows(9, 1) {
+        note(r[0] > 7, q);
+    }
+    for (q, r) in rows(11, 41) {
+        const MARKS: [usize; 9] = [15, 19, 21, 24, 28, 30, 33, 38, 39];
+        note(r[1] > u32::MAX as u64, q + 1);
+        note(r[11] > 2, q + 11);
+        for k in MARKS {
+            note(r[k] > 3, q + k);
+        }
+        for k in [25, 26] {
+            note(r[24] != 0 && r[k] > 1, q + k);
+        }
+        note(r[28] != 0 && r[29] > 511, q + 29);
+        note(r[40] > 1 || r[40] == 0 && MARKS.iter().any(|k| r[*k] != 0), q + 40);
+    }
+    if at != usize::MAX {
+        return (6 << 16) + at as u64;
+    }
+    let high = |n: u64| {
+        let q = w[2] as usize + 2 * n as usize;
+        !b[w[q] as usize..(w[q] + w[q + 1]) as usize].is_ascii()
+    };
+    let mut note = |wrong: bool, p: usize| {
+        if wrong && p < at {
+            at = p;
+        }
+    };
+    note(w[13] != 0 && high(w[13] - 1), 13);
+    for (q, r) in rows(3, 2) {
+        note(high(r[1]), q + 1);
+    }
+    for (q, r) in rows(7, 3) {
+        note(r[0] == 0 && high(r[1]), q + 1);
+    }
+    if at != usize::MAX {
+        return (7 << 16) + at as u64;
+    }
+    if w[14] != 0 {
+        return (8 << 16) + 14;
+    }
+    0
 }
 
 // A small generator of numbers, the same on every run.
@@ -197,7 +168,7 @@ fn certificate(r: &mut Numbers, s: &Sizes) -> Vec<u64> {
     for k in [13, 14, 16, 17, 18] {
         c[k] = r.below(s.strings + 1);
     }
-    for k in MARKS {
+    for k in [15, 19, 21, 24, 28, 30, 33, 38, 39] {
         c[k] = r.below(4);
     }
     for (k, n) in [(7, s.rdns), (9, s.rdns), (22, s.usages), (31, s.names), (34, s.names), (36, s.names)] {
