@@ -34,7 +34,7 @@ pub struct CertRow(pub u64);
 pub fn row_of(p: CertPos) -> CertRow
     ensures { λ r. ⌜ r .0 ≡ p .0 ⌝ }
 {
-    CertRow(p.0)
+    CertRow(p.0 as u64)
 }
 
 // The rows of a range that a section has.

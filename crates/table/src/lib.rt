@@ -5,11 +5,11 @@ ghost use Rattle.table.specs.Table.{word as wordOf, part, countOf, offse
 // The number of a string: a row of S.
 pub struct StringNo(pub u64);
 
-// The position of a certificate in the chain: 0 is the leaf.
-pub struct CertPos(pub u64);
+// The position of a certificate in the chain: 0 is the leaf. As wide as a word of a report.
+pub struct CertPos(pub u32);
 
 // The number of a rule.
-pub struct RuleNo(pub u64);
+pub struct RuleNo(pub u32);
 
 // Where a section stands: the word of the header that holds its count (the next holds its offset), and the words of a row.
 pub struct Section {
