@@ -1,6 +1,6 @@
 """The table of 256 entries of crate `text`: for each byte 256 times its class, and its lower-case form.
 
-That the entries are right is proved (crates/text/proofs/table/whole) and doesn't rest on this script."""
+That the entries are right is proved (crates/text/proofs/byte_table/whole) and doesn't rest on this script."""
 
 CLASSES = {
     1: "ABCDEFGHIJKLMNOPQRSTUVWXYZabcdefghijklmnopqrstuvwxyz",
@@ -52,4 +52,4 @@ pub fn entry_in(table: &[u16; 256], x: u8) -> u16
 
 def files():
     """Each path that this script writes, with what it writes there."""
-    return {"crates/text/src/table.rt": SOURCE % "\n".join(f"    {entry}," for entry in ENTRIES)}
+    return {"crates/text/src/byte_table.rt": SOURCE % "\n".join(f"    {entry}," for entry in ENTRIES)}

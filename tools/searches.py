@@ -17,6 +17,14 @@ GROUPS = {
     "chain_wrong": ["tables_out", "cert_strings_out", "cert_ranges_out", "codes_over", "marks_over", "names_high"],
     "policy_wrong": ["lists_out", "entries_high"],
 }
+# A loop over the rows of a line: its parameters, whether its test is asked at a sum, the test's function, and the test as a definition of q, where the row begins.
+LOOPS = {
+    "first_no_string": ("words j", True, "no_string", "noString {words} ({q} + {j})"),
+    "first_string_out": ("words bytes j", True, "string_out", "stringOut {words} {bytes} ({q} + {j})"),
+    "first_no_range": ("words s j", True, "no_range", "noRange {words} {s} ({q} + {j})"),
+    "first_high": ("words bytes j", True, "number_high", "highString {words} {bytes} (word {words} ({q} + {j}))"),
+    "first_wrong": ("words bytes t j", False, "is_wrong", "wrong {t} {words} {bytes} {q} {j}"),
+}
 
 
 def dashed(name):
@@ -107,8 +115,65 @@ def of_groups(name, groups):
     return proof(name, groups, uses, asked, returns)
 
 
+def of_loop(name, parameters, sums, test, definition):
+    names = parameters.split()
+    slices = [p for p in names if p in ("words", "bytes")]
+    inside = definition.format(q="(q₀ + size * k)", **{p: p for p in names})
+    outside = definition.format(q="q", **{p: f"(a .{p}{' .now' if p in slices else ''})" for p in names})
+    uses = [
+        "borrow.Author.Needs.{needs}",
+        "Prim.Native.Nat.{ℕ, _+_, _*_, _-_, _≤_}",
+        "native.Mathlib.Omega.{arith}",
+        "mathlib.Core.Path.{_≡_, refl}",
+        "lib.ListN.{length}",
+        "Rattle.laws.specs.Lists.{least}",
+        "Rattle.laws.proofs.Loops.{least-none}",
+        "Rattle.sound.specs.Wrong.{%s}" % definition.split()[0],
+    ]
+    if "(word " in definition:
+        uses.append("Rattle.table.specs.Table.{word}")
+    uses += [
+        "Rattle.sound.proofs.Steps.{row-first, row-next, row-fits, row-here, row-later}",
+        f"Rattle.sound.proofs.{name}.Statement.{{statement}}",
+        f"Rattle.sound.proofs.{name}.Tie as tie",
+    ]
+    state = f"{parameters} size count q₀ i₀ q i"
+    call = dashed(test)
+    args = f"let a = {back(4 + len(slices))} .args in "
+    step = f"_ _ _ _ ({back(2)} .loop-test .taken) ({back(3)} .loop .inv .0) ({back(1)} .{call} .ensures)"
+    within = f"row-fits _ _ _ _ _ ({back(0)} .loop-test .taken) ({back(1)} .loop .inv .2)"
+    inside_words = f"omega (arith, ({back(1)} .loop .inv .0), {within})"
+    needs = {"loop-holds": f"(row-first _ _, omega arith, {back(len(slices))} .pre, refl)"}
+    if sums:
+        needs[f"add-{call}"] = inside_words
+        needs[f"{call}-requires"] = "search needs"
+    else:
+        needs[f"{call}-requires"] = inside_words
+    needs["returns"] = f"{args}row-here (λ (q : ℕ). {outside}) {step} (c .if1 .taken) ({back(3)} .loop .inv .3)"
+    needs["add-q"] = f"omega (arith, ({back(3)} .loop .inv .0), row-fits _ _ _ _ _ ({back(2)} .loop-test .taken) ({back(3)} .loop .inv .2))"
+    needs["add-i"] = "search needs"
+    needs["loop-less"] = "search needs"
+    needs["loop-again"] = (
+        f"{args}(row-next _ _ _ ({back(3)} .loop .inv .0), omega arith, {back(3)} .loop .inv .2, "
+        f"row-later (λ (q : ℕ). {outside}) {step} (c .if1 .left) ({back(3)} .loop .inv .3))"
+    )
+    needs["returns-2"] = "least-none _ _ _ (c .loop-test .left) (c .before .loop .inv .3)"
+    lines = [f"use {use}" for use in uses]
+    lines += ["", "-- the rows that were passed are right", "abbrev Inv-loop : tie.InvT-loop"]
+    whole = f"least (λ k. {inside})"
+    lines += [f"Inv-loop {state} = (q ≡ q₀ + size * i) × (i ≤ count) × (q₀ + size * count ≤ length words) × ({whole} 0 count ≡ {whole} i count)"]
+    lines += ["", "abbrev μ-loop : tie.MeasureT-loop", f"μ-loop {state} = count - i"]
+    for need, answer in needs.items():
+        bound = " c κs" if need.endswith("requires") else " c"
+        lines += ["", f"{need} : tie.Need-{need} Inv-loop μ-loop", f"{need}{bound} = {answer}"]
+    spec = dashed(name) + "-spec"
+    lines += ["", f"pub {spec} : {{M : Type 1}} → statement M", f"{spec} ="] + closing(["Inv-loop", "μ-loop"] + list(needs))
+    return "\n".join(lines) + "\n"
+
+
 def files():
     made = {name: of_lines(name, calls) for name, calls in LINES.items()}
     made |= {name: of_sections(name, *section) for name, section in SECTIONS.items()}
     made |= {name: of_groups(name, groups) for name, groups in GROUPS.items()}
+    made |= {name: of_loop(name, *loop) for name, loop in LOOPS.items()}
     return {f"crates/sound/proofs/{name}/Proof.antt": text for name, text in made.items()}

@@ -19,7 +19,7 @@ fn is_no_space(table: &[u16; 256], x: u8) -> bool
     requires { ⌜ now table ≡ wholeTable ⌝ }
     ensures { λ r. ⌜ r ≡ not (isSpace x) ⌝ }
 {
-    text::table::entry_in(table, x) / 256 != text::SPACE as u16
+    text::byte_table::entry_in(table, x) / 256 != text::SPACE as u16
 }
 
 // The first place from i on that holds no space, or the end.
@@ -49,7 +49,7 @@ fn advance(table: &[u16; 256], s: &[u8], i: usize) -> Step
             at: i,
         };
     }
-    let entry = text::table::entry_in(table, s[i]);
+    let entry = text::byte_table::entry_in(table, s[i]);
     if entry / 256 != text::SPACE as u16 {
         return Step {
             end: false,
@@ -72,7 +72,7 @@ pub fn same_normal(a: &[u8], b: &[u8]) -> bool
     if text::same(a, b) {
         return true;
     }
-    let table = text::table::whole();
+    let table = text::byte_table::whole();
     let mut i = past_spaces(&table, a, 0);
     let mut j = past_spaces(&table, b, 0);
     loop {

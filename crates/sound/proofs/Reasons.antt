@@ -56,8 +56,8 @@ module _ (w : List ℕ) (q : ℕ) {k : ℕ} (e : k ≡ word w q) where
 pub dns-other : (w b : List ℕ) (q n : ℕ) {k : ℕ} → k ≡ word w q → (k ≡ 0 → ⊥) → false ≡ (eqb (word w q) 0 && highString w b n)
 dns-other w b q n e h = rw (← e, ne-eqb _ 0 h) refl
 
-pub dns-name : (w b : List ℕ) (q : ℕ) {n m k : ℕ} {r : Bool} → k ≡ word w q → k ≡ 0 → n ≡ m → r ≡ highString w b n → r ≡ (eqb (word w q) 0 && highString w b m)
-dns-name w b q {n} {m} {k} e h f t = t ∙ rw (f, ← e, h) refl
+pub dns-name : (w b : List ℕ) (q n : ℕ) {k : ℕ} {r : Bool} → k ≡ word w q → k ≡ 0 → r ≡ highString w b n → r ≡ (eqb (word w q) 0 && highString w b n)
+dns-name w b q n e h t = t ∙ rw (← e, h) refl
 
 pub no-optional-string : (w b : List ℕ) (p : ℕ) {n : ℕ} → n ≡ word w p → n ≡ 0 → false ≡ (there w p && highString w b (word w p - 1))
 unfolding there

@@ -10,6 +10,8 @@ use mathlib.Core.Bool.{Bool, true, false, _&&_, _||_}
 use lib.Dec.{eqb, ltb}
 use lib.ListN.{length}
 use borrow.Author.Tests.{lt-ltb, le-ltb}
+use Rattle.laws.specs.Lists.{least}
+use Rattle.laws.proofs.Loops.{least-here, least-next}
 use Rattle.table.specs.Table.{word, countOf, offsetOf}
 use Rattle.table.specs.declared.Section.{Section}
 use Rattle.table.specs.declared.Range.{Range}
@@ -124,9 +126,18 @@ pub fits-as : (w : List ℕ) (l : Line) {r : Rows} → r ≡ rowsOf w (l .block)
 unfolding Fits
 fits-as w l e h = rw e h
 
--- what is asked of a row, by where it begins
-pub at-row : (t : Test) (w b : List ℕ) (j : ℕ) (q at : ℕ) {r : Bool} → q ≡ at → r ≡ wrong t w b q j → r ≡ wrong t w b at j
-at-row t w b j q at e h = h ∙ ap (λ (x : ℕ). wrong t w b x j) e
+-- ---- a loop over rows: row i, which begins at q, is asked by p
+module _ (p : ℕ → Bool) (at size i count : ℕ) {q : ℕ} {whole : ℕ} {r : Bool} (l : i < count) (e : q ≡ at + size * i) (t : r ≡ p q) where
+  pub row-here : r ≡ true → whole ≡ least (λ k. p (at + size * k)) i count → i ≡ whole
+  row-here y h = least-here (λ k. p (at + size * k)) i count l (t ∙ ap p e) y h
+
+  pub row-later : r ≡ false → whole ≡ least (λ k. p (at + size * k)) i count → whole ≡ least (λ k. p (at + size * k)) (i + 1) count
+  row-later y h = least-next (λ k. p (at + size * k)) i count l (t ∙ ap p e) y h
+
+-- the first wrong row, by the line's test
+pub row-by-test : (w b : List ℕ) (l : Line) (r : Rows) {i : ℕ} (t : Test) → l .test ≡ t → i ≡ least (λ k. wrong t w b (rowAt r k) (l .word)) 0 (r .count) → i ≡ firstRow w b l r
+unfolding firstRow
+row-by-test w b l r t e h = h ∙ rw (← e) refl
 
 -- ---- a line
 module _ (w b : List ℕ) (l : Line) (f : Found) {r : Rows} (e : r ≡ rowsOf w (l .block)) {i : ℕ} (t : i ≡ firstRow w b l r) where

@@ -1,9 +1,10 @@
 // Whether a bundle is sound, and else which refusal is due at which word.
 ghost use mathlib.Core.Path.{_≡_};
-ghost use Prim.Native.Nat.{_-_, _≤_};
+ghost use Prim.Native.Nat.{_+_, _-_, _≤_};
 ghost use mathlib.Core.Bool.{not, _&&_, _||_};
 ghost use lib.Dec.{eqb, ltb};
 ghost use lib.ListN.{length};
+ghost use Rattle.laws.specs.Lists.{least};
 ghost use Rattle.table.specs.Table.{word as wordOf, countOf};
 ghost use Rattle.sound.specs.Answer.{ChainVerdict, PolicyVerdict};
 ghost use Rattle.sound.specs.Fault.{rowsOf, rowAt, misplaced, Fits, AllFit, tooLarge, mostCerts, edition};
@@ -201,6 +202,12 @@ fn extensions_wrong(words: &[u64], q: usize) -> bool
     over(words, 1, q + 40) | (!there(words, q + 40) & some_part(words, q))
 }
 
+fn number_high(words: &[u64], bytes: &[u8], p: usize) -> bool
+    ensures { λ r. ⌜ r ≡ highString (now (words .entry)) (now (bytes .entry)) (wordOf (now (words .entry)) p) ⌝ }
+{
+    high_string(words, bytes, StringNo(word(words, p)))
+}
+
 // The DNS name at p of a name that begins at q.
 fn dns_high(words: &[u64], bytes: &[u8], q: usize, p: usize) -> bool
     ensures { λ r. ⌜ r ≡ (eqb (wordOf (now (words .entry)) q) 0 && highString (now (words .entry)) (now (bytes .entry)) (wordOf (now (words .entry)) p)) ⌝ }
@@ -208,7 +215,7 @@ fn dns_high(words: &[u64], bytes: &[u8], q: usize, p: usize) -> bool
     if word(words, q) != 0 {
         return false;
     }
-    high_string(words, bytes, StringNo(word(words, p)))
+    number_high(words, bytes, p)
 }
 
 fn optional_high(words: &[u64], bytes: &[u8], p: usize) -> bool
@@ -239,7 +246,7 @@ fn is_wrong(words: &[u64], bytes: &[u8], t: Test, q: usize, j: u8) -> bool
         Test::Over(most) => over(words, most, p),
         Test::PartOver(m, most) => there(words, q + m as usize) & over(words, most, p),
         Test::Extensions => extensions_wrong(words, q),
-        Test::NumberHigh => high_string(words, bytes, StringNo(word(words, p))),
+        Test::NumberHigh => number_high(words, bytes, p),
         Test::DnsHigh => dns_high(words, bytes, q, p),
         Test::OptionalHigh => optional_high(words, bytes, p),
         Test::NotZero => there(words, p),
@@ -341,6 +348,97 @@ fn rows_of(words: &[u64], block: Block) -> Rows
     }
 }
 
+// The first row that fails a test, or their number. The tests of most rows have loops of their own: there nothing is chosen anew in each row.
+fn first_no_string(words: &[u64], r: Rows, j: u8) -> usize
+    requires { ⌜ rowAt r (r .count) ≤ length (now words) ⌝ }
+    ensures { λ i. ⌜ i ≡ least (λ k. noString (now (words .entry)) (rowAt r k + j)) 0 (r .count) ⌝ }
+{
+    let size = r.size;
+    let count = r.count;
+    let mut q = r.at;
+    let mut i = 0;
+    while i < count {
+        if no_string(words, q + j as usize) {
+            return i;
+        }
+        q += size;
+        i += 1;
+    }
+    i
+}
+
+fn first_string_out(words: &[u64], bytes: &[u8], r: Rows, j: u8) -> usize
+    requires { ⌜ rowAt r (r .count) ≤ length (now words) ⌝ }
+    ensures { λ i. ⌜ i ≡ least (λ k. stringOut (now (words .entry)) (now (bytes .entry)) (rowAt r k + j)) 0 (r .count) ⌝ }
+{
+    let size = r.size;
+    let count = r.count;
+    let mut q = r.at;
+    let mut i = 0;
+    while i < count {
+        if string_out(words, bytes, q + j as usize) {
+            return i;
+        }
+        q += size;
+        i += 1;
+    }
+    i
+}
+
+fn first_no_range(words: &[u64], s: Section, r: Rows, j: u8) -> usize
+    requires { ⌜ rowAt r (r .count) ≤ length (now words) ⌝ }
+    ensures { λ i. ⌜ i ≡ least (λ k. noRange (now (words .entry)) s (rowAt r k + j)) 0 (r .count) ⌝ }
+{
+    let size = r.size;
+    let count = r.count;
+    let mut q = r.at;
+    let mut i = 0;
+    while i < count {
+        if no_range(words, s, q + j as usize) {
+            return i;
+        }
+        q += size;
+        i += 1;
+    }
+    i
+}
+
+fn first_high(words: &[u64], bytes: &[u8], r: Rows, j: u8) -> usize
+    requires { ⌜ rowAt r (r .count) ≤ length (now words) ⌝ }
+    ensures { λ i. ⌜ i ≡ least (λ k. highString (now (words .entry)) (now (bytes .entry)) (wordOf (now (words .entry)) (rowAt r k + j))) 0 (r .count) ⌝ }
+{
+    let size = r.size;
+    let count = r.count;
+    let mut q = r.at;
+    let mut i = 0;
+    while i < count {
+        if number_high(words, bytes, q + j as usize) {
+            return i;
+        }
+        q += size;
+        i += 1;
+    }
+    i
+}
+
+fn first_wrong(words: &[u64], bytes: &[u8], t: Test, r: Rows, j: u8) -> usize
+    requires { ⌜ rowAt r (r .count) ≤ length (now words) ⌝ }
+    ensures { λ i. ⌜ i ≡ least (λ k. wrong t (now (words .entry)) (now (bytes .entry)) (rowAt r k) j) 0 (r .count) ⌝ }
+{
+    let size = r.size;
+    let count = r.count;
+    let mut q = r.at;
+    let mut i = 0;
+    while i < count {
+        if is_wrong(words, bytes, t, q, j) {
+            return i;
+        }
+        q += size;
+        i += 1;
+    }
+    i
+}
+
 // The first wrong row of a line, or their number.
 fn first_row(words: &[u64], bytes: &[u8], l: Line, r: Rows) -> usize
     requires { ⌜ rowAt r (r .count) ≤ length (now words) ⌝ }
@@ -348,18 +446,13 @@ fn first_row(words: &[u64], bytes: &[u8], l: Line, r: Rows) -> usize
 {
     let test = l.test;
     let j = l.word;
-    let size = r.size;
-    let count = r.count;
-    let mut q = r.at;
-    let mut i = 0;
-    while i < count {
-        if is_wrong(words, bytes, test, q, j) {
-            return i;
-        }
-        q += size;
-        i += 1;
+    match test {
+        Test::StringOut => first_string_out(words, bytes, r, j),
+        Test::NumberOut => first_no_string(words, r, j),
+        Test::RangeOut(s) => first_no_range(words, s, r, j),
+        Test::NumberHigh => first_high(words, bytes, r, j),
+        _ => first_wrong(words, bytes, test, r, j),
     }
-    i
 }
 
 fn with_line(words: &[u64], bytes: &[u8], f: Found, l: Line) -> Found

@@ -1,5 +1,5 @@
 // Bytes as text. Nothing is copied: a text is a part of the bytes that somebody lends.
-pub mod table;
+pub mod byte_table;
 
 ghost use mathlib.Core.Path.{_≡_};
 ghost use Prim.Native.Nat.{_+_};
@@ -29,30 +29,30 @@ pub enum Letters {
 pub fn lower(x: u8) -> u8
     ensures { λ r. ⌜ r ≡ lowerByte x ⌝ }
 {
-    let table = table::whole();
-    (table::entry_in(&table, x) % 256) as u8
+    let table = byte_table::whole();
+    (byte_table::entry_in(&table, x) % 256) as u8
 }
 
 // The class of a byte.
 pub fn class_of(x: u8) -> u8
     ensures { λ r. ⌜ r ≡ classOf x ⌝ }
 {
-    let table = table::whole();
-    (table::entry_in(&table, x) / 256) as u8
+    let table = byte_table::whole();
+    (byte_table::entry_in(&table, x) / 256) as u8
 }
 
 fn is_class(table: &[u16; 256], x: u8, class: u8) -> bool
     requires { ⌜ now table ≡ wholeTable ⌝ }
     ensures { λ r. ⌜ r ≡ eqb (classOf x) class ⌝ }
 {
-    table::entry_in(table, x) / 256 == class as u16
+    byte_table::entry_in(table, x) / 256 == class as u16
 }
 
 // Whether some byte of a text is of a class.
 pub fn has_class(s: &[u8], class: u8) -> bool
     ensures { λ r. ⌜ r ≡ any (λ x. eqb (classOf x) class) (now (s .entry)) ⌝ }
 {
-    let table = table::whole();
+    let table = byte_table::whole();
     let mut i = 0;
     while i < s.len() {
         if is_class(&table, s[i], class) {
@@ -80,7 +80,7 @@ fn is_host_byte(table: &[u16; 256], x: u8) -> bool
     requires { ⌜ now table ≡ wholeTable ⌝ }
     ensures { λ r. ⌜ r ≡ isHostByte x ⌝ }
 {
-    let class = table::entry_in(table, x) / 256;
+    let class = byte_table::entry_in(table, x) / 256;
     (LETTER as u16 <= class) & (class <= DOT as u16)
 }
 
@@ -88,7 +88,7 @@ fn is_host_byte(table: &[u16; 256], x: u8) -> bool
 pub fn all_host_bytes(s: &[u8]) -> bool
     ensures { λ r. ⌜ r ≡ all isHostByte (now (s .entry)) ⌝ }
 {
-    let table = table::whole();
+    let table = byte_table::whole();
     let mut i = 0;
     while i < s.len() {
         if is_host_byte(&table, s[i]) {
@@ -142,8 +142,8 @@ fn lowered_equal(x: u8, y: u8) -> bool
     if x == y {
         return true;
     }
-    let table = table::whole();
-    table::entry_in(&table, x) % 256 == table::entry_in(&table, y) % 256
+    let table = byte_table::whole();
+    byte_table::entry_in(&table, x) % 256 == byte_table::entry_in(&table, y) % 256
 }
 
 fn taken_equal(letters: Letters, x: u8, y: u8) -> bool

@@ -9,15 +9,12 @@ word-requires c κs = search needs
 returns : tie.Need-returns
 returns c = dns-other _ _ _ _ (c .before .word .ensures) (c .if1 .taken)
 
-word-requires-2 : tie.Need-word-requires-2
-word-requires-2 c κs = search needs
-
-high-string-requires : tie.Need-high-string-requires
-high-string-requires c κs = search needs
+number-high-requires : tie.Need-number-high-requires
+number-high-requires c κs = search needs
 
 returns-2 : tie.Need-returns-2
-returns-2 c = dns-name _ _ _ (c .before .before .before .word .ensures) (c .before .before .if1 .left) (c .before .word2 .ensures) (c .high-string .ensures)
+returns-2 c = dns-name _ _ _ _ (c .before .before .word .ensures) (c .before .if1 .left) (c .number-high .ensures)
 
 pub dns-high-spec : {M : Type 1} → statement M
 dns-high-spec =
-    tie.close (tie.spec word-requires returns word-requires-2 high-string-requires returns-2)
+    tie.close (tie.spec word-requires returns number-high-requires returns-2)

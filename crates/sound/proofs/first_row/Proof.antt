@@ -1,59 +1,66 @@
-use Rattle.sound.specs.Search.{firstRow}
-use Rattle.sound.proofs.Steps.{row-first, row-next, row-fits, at-row}
+use mathlib.Core.Path.{refl}
+use Rattle.sound.proofs.Steps.{row-by-test}
 use borrow.Author.Needs.{needs}
-use Prim.Native.Nat.{_+_, _*_, _-_, _≤_}
-use native.Mathlib.Omega.{arith}
-use mathlib.Core.Path.{_≡_, refl}
-use lib.ListN.{length}
-use Rattle.laws.specs.Lists.{least}
-use Rattle.laws.proofs.Loops.{least-here, least-next, least-none}
-use Rattle.sound.specs.Wrong.{wrong}
 use Rattle.sound.proofs.first_row.Statement.{statement}
 use Rattle.sound.proofs.first_row.Tie as tie
 
-abbrev Inv-loop : tie.InvT-loop
-Inv-loop words bytes test j size count q₀ i₀ q i = (q ≡ q₀ + size * i) × (i ≤ count) × (q₀ + size * count ≤ length words) × (least (λ k. wrong test words bytes (q₀ + size * k) j) 0 count ≡ least (λ k. wrong test words bytes (q₀ + size * k) j) i count)
+enum-told : tie.Need-enum-told
+enum-told c = search needs
 
-abbrev μ-loop : tie.MeasureT-loop
-μ-loop words bytes test j size count q₀ i₀ q i = count - i
+first-string-out-requires : tie.Need-first-string-out-requires
+first-string-out-requires c κs = search needs
 
-loop-holds : tie.Need-loop-holds Inv-loop μ-loop
-loop-holds c = (row-first _ _, omega arith, (c .before .before .pre), refl)
+enum-told-2 : tie.Need-enum-told-2
+enum-told-2 c = search needs
 
-is-wrong-requires : tie.Need-is-wrong-requires Inv-loop μ-loop
-is-wrong-requires c κs = omega (arith, (c .before .loop .inv .0), row-fits _ _ _ _ _ (c .loop-test .taken) (c .before .loop .inv .2))
+first-no-string-requires : tie.Need-first-no-string-requires
+first-no-string-requires c κs = search needs
 
-returns : tie.Need-returns Inv-loop μ-loop
-unfolding firstRow
-returns c = let a = c .before .before .before .before .before .before .args in least-here _ _ _ (c .before .before .loop-test .taken) (at-row (a .l .test) (a .words .now) (a .bytes .now) (a .l .word) _ _ (c .before .before .before .loop .inv .0) (c .before .is-wrong .ensures)) (c .if1 .taken) (c .before .before .before .loop .inv .3)
+enum-known-test : tie.Need-enum-known-test
+enum-known-test c = search needs
 
-add-q : tie.Need-add-q Inv-loop μ-loop
-add-q c = omega (arith, (c .before .before .before .loop .inv .0), row-fits _ _ _ _ _ (c .before .before .loop-test .taken) (c .before .before .before .loop .inv .2))
+first-no-range-requires : tie.Need-first-no-range-requires
+first-no-range-requires c κs = search needs
 
-add-i : tie.Need-add-i Inv-loop μ-loop
-add-i c = search needs
+enum-told-3 : tie.Need-enum-told-3
+enum-told-3 c = search needs
 
-loop-less : tie.Need-loop-less Inv-loop μ-loop
-loop-less c = search needs
+first-high-requires : tie.Need-first-high-requires
+first-high-requires c κs = search needs
 
-loop-again : tie.Need-loop-again Inv-loop μ-loop
-loop-again c = let a = c .before .before .before .before .before .before .args in (row-next _ _ _ (c .before .before .before .loop .inv .0), omega arith, (c .before .before .before .loop .inv .2), least-next _ _ _ (c .before .before .loop-test .taken) (at-row (a .l .test) (a .words .now) (a .bytes .now) (a .l .word) _ _ (c .before .before .before .loop .inv .0) (c .before .is-wrong .ensures)) (c .if1 .left) (c .before .before .before .loop .inv .3))
+first-wrong-requires : tie.Need-first-wrong-requires
+first-wrong-requires c κs = search needs
 
-returns-2 : tie.Need-returns-2 Inv-loop μ-loop
-unfolding firstRow
-returns-2 c = least-none _ _ _ (c .loop-test .left) (c .before .loop .inv .3)
+returns : tie.Need-returns
+returns c = row-by-test _ _ _ _ _ (c .before .enum-told .given .1) (c .first-string-out .ensures)
+
+returns-2 : tie.Need-returns-2
+returns-2 c = row-by-test _ _ _ _ _ (c .before .enum-told2 .given .1) (c .first-no-string .ensures)
+
+returns-3 : tie.Need-returns-3
+returns-3 c = row-by-test _ _ _ _ _ (c .before .before .test .given .1) (c .first-no-range .ensures)
+
+returns-4 : tie.Need-returns-4
+returns-4 c = row-by-test _ _ _ _ _ (c .before .enum-told3 .given .1) (c .first-high .ensures)
+
+returns-5 : tie.Need-returns-5
+returns-5 c = row-by-test _ _ _ _ _ refl (c .first-wrong .ensures)
 
 pub first-row-spec : {M : Type 1} → statement M
 first-row-spec =
     tie.close
     (tie.spec
-    Inv-loop
-    μ-loop
-    loop-holds
-    is-wrong-requires
+    enum-told
+    first-string-out-requires
+    enum-told-2
+    first-no-string-requires
+    enum-known-test
+    first-no-range-requires
+    enum-told-3
+    first-high-requires
+    first-wrong-requires
     returns
-    add-q
-    add-i
-    loop-less
-    loop-again
-    returns-2)
+    returns-2
+    returns-3
+    returns-4
+    returns-5)

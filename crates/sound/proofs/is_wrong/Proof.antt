@@ -1,6 +1,5 @@
-use mathlib.Core.Path.{ap, ap₂, _∙_}
+use mathlib.Core.Path.{ap₂}
 use mathlib.Core.Bool.{_&&_}
-use Rattle.sound.specs.Wrong.{highString}
 use Rattle.sound.proofs.Reasons.{by-test}
 use borrow.Author.Needs.{needs}
 use Rattle.sound.proofs.is_wrong.Statement.{statement}
@@ -114,11 +113,8 @@ extensions-wrong-requires c κs = search needs
 enum-told-6 : tie.Need-enum-told-6
 enum-told-6 c = search needs
 
-word-requires : tie.Need-word-requires
-word-requires c κs = search needs
-
-high-string-requires : tie.Need-high-string-requires
-high-string-requires c κs = search needs
+number-high-requires : tie.Need-number-high-requires
+number-high-requires c κs = search needs
 
 enum-told-7 : tie.Need-enum-told-7
 enum-told-7 c = search needs
@@ -172,7 +168,7 @@ returns-11 : tie.Need-returns-11
 returns-11 c = by-test _ _ _ _ _ _ (c .before .enum-told5 .given .1) (c .extensions-wrong .ensures)
 
 returns-12 : tie.Need-returns-12
-returns-12 c = by-test _ _ _ _ _ _ (c .before .before .enum-told6 .given .1) (c .high-string .ensures ∙ ap (highString _ _) (c .before .word .ensures))
+returns-12 c = by-test _ _ _ _ _ _ (c .before .enum-told6 .given .1) (c .number-high .ensures)
 
 returns-13 : tie.Need-returns-13
 returns-13 c = by-test _ _ _ _ _ _ (c .before .enum-told7 .given .1) (c .dns-high .ensures)
@@ -223,8 +219,7 @@ is-wrong-spec =
     enum-told-5
     extensions-wrong-requires
     enum-told-6
-    word-requires
-    high-string-requires
+    number-high-requires
     enum-told-7
     dns-high-requires
     enum-told-8
