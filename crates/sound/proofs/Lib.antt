@@ -2,5 +2,4 @@ pub mod Fitting
 pub mod Order
 pub mod Reasons
 pub mod Steps
-pub mod Theorems
 pub mod Verdicts

@@ -2,7 +2,7 @@
 use Prim.Native.Nat.{ℕ, _<_, _≤_}
 use native.Mathlib.Omega.{arith}
 use native.Mathlib.Decide.{decLt}
-use mathlib.Core.Path.{_≡_, refl, sym, _∙_}
+use mathlib.Core.Path.{_≡_, refl, sym, ap, _∙_}
 use mathlib.Core.Logic.{_⊎_, inl, inr, ⊎-elim}
 use mathlib.Core.List.{List, List·Memᴰ}
 use mathlib.Core.Bool.{Bool, true, false, not, true≢false}
@@ -13,10 +13,12 @@ use Rattle.sound.specs.declared.Line.{Line}
 use Rattle.sound.specs.declared.Found.{Found}
 use Rattle.sound.specs.declared.Found.the-variants.{Clear, At}
 use Rattle.sound.specs.declared.Bundle.{Bundle}
+use Rattle.sound.specs.declared.Bundle.the-variants.{Chain, Policy}
+use Rattle.sound.specs.declared.Place.{Place}
 use Rattle.sound.specs.declared.Place.the-variants.{Nothing, Word, Certificate, Pair}
 use Rattle.sound.specs.declared.Checked.{Checked}
 use Rattle.sound.specs.declared.Checked.the-variants.{Sound, Refused}
-use Rattle.sound.specs.Answer.{Before, First, Verdict}
+use Rattle.sound.specs.Answer.{bundleNumber, placeKind, placeFirst, Before, First, Verdict}
 use Rattle.sound.specs.Fault.{Layout, Fault, size, otherEdition, section, row, edition, misplaced}
 use Rattle.sound.specs.Search.{foundIn, foundSection, foundEach}
 use Rattle.sound.proofs.Order.{FirstOf, all-first, first-same, LineFault, found-first, SectionFault, section-first}
@@ -93,6 +95,19 @@ module _ (y : Layout) (w b : List ℕ) (from5 : (l : Line) → List·Memᴰ l (y
 three : (a b : ℕ) → (a < b) ⊎ ((a ≡ b) ⊎ (b < a))
 three a b = elim (decLt a b) [ yes l ↦ inl l | no n ↦ elim (decLt b a) [ yes g ↦ inr (inr g) | no m ↦ inr (inl (omega arith)) ] ]
 
+-- a bundle is told from its number, a word from a place's first value
+same-bundle : (i j : Bundle) → bundleNumber i ≡ bundleNumber j → i ≡ j
+same-bundle Chain Chain e = refl
+same-bundle Chain Policy e = absurd (omega arith)
+same-bundle Policy Chain e = absurd (omega arith)
+same-bundle Policy Policy e = refl
+
+is-word : (q : Place) → placeKind q ≡ 1 → q ≡ Word (placeFirst q)
+is-word Nothing e = absurd (omega arith)
+is-word (Word p) e = refl
+is-word (Certificate i) e = absurd (omega arith)
+is-word (Pair i j) e = absurd (omega arith)
+
 module _ (F : ℕ → ℕ → Type 0) (k : Bundle) where
   same-first : (n p m q : ℕ) → First F n p → First F m q → (n ≡ m) × (p ≡ q)
   same-first n p m q a b =
@@ -104,22 +119,17 @@ module _ (F : ℕ → ℕ → Type 0) (k : Bundle) where
 
   pub one-verdict : (r s : Checked) → Verdict F k r → Verdict F k s → r ≡ s
   one-verdict Sound Sound a b = refl
-  one-verdict Sound (Refused n i Nothing) a b = absurd b
-  one-verdict Sound (Refused n i (Word p)) a b = absurd (a n p (b .1 .due))
-  one-verdict Sound (Refused n i (Certificate x)) a b = absurd b
-  one-verdict Sound (Refused n i (Pair x z)) a b = absurd b
-  one-verdict (Refused n i Nothing) s a b = absurd a
-  one-verdict (Refused n i (Certificate x)) s a b = absurd a
-  one-verdict (Refused n i (Pair x z)) s a b = absurd a
-  one-verdict (Refused n i (Word p)) Sound a b = absurd (b n p (a .1 .due))
-  one-verdict (Refused n i (Word p)) (Refused m j Nothing) a b = absurd b
-  one-verdict (Refused n i (Word p)) (Refused m j (Word q)) a b = let (e, d) = same-first n p m q (a .1) (b .1) in let f : i ≡ j = a .0 ∙ sym (b .0) in cc
-  one-verdict (Refused n i (Word p)) (Refused m j (Certificate x)) a b = absurd b
-  one-verdict (Refused n i (Word p)) (Refused m j (Pair x z)) a b = absurd b
+  one-verdict Sound (Refused m j q) a b = absurd (a m (placeFirst q) (b .2 .due))
+  one-verdict (Refused n i p) Sound a b = absurd (b n (placeFirst p) (a .2 .due))
+  one-verdict (Refused n i p) (Refused m j q) a b =
+      let (e, d) = same-first n (placeFirst p) m (placeFirst q) (a .2) (b .2) in
+      let f = same-bundle i j (a .0 ∙ sym (b .0)) in
+      let g : p ≡ q = is-word p (a .1) ∙ ap Word d ∙ sym (is-word q (b .1)) in
+      cc
 
 -- ---- the answers of a check, as the code gives them
 answered : (F : ℕ → ℕ → Type 0) (k : Bundle) (n p : ℕ) {r : Checked} → First F n p → r ≡ Refused n k (Word p) → Verdict F k r
-answered F k n p f e = rw e (refl, f)
+answered F k n p f e = rw e (refl, refl, f)
 
 module _ (y : Layout) (w b : List ℕ) (from5 : (l : Line) → List·Memᴰ l (y .lines) → 5 ≤ l .number) (k : Bundle) {g : Bool} (large : g ≡ y .large) where
   pub answer-size : {r : Checked} → g ≡ true → r ≡ Refused 2 k (Word 0) → Verdict (Fault y w b) k r

@@ -11,31 +11,6 @@ use Rattle.sound.specs.declared.Checked.{Checked}
 use Rattle.sound.specs.declared.Checked.the-variants.{Sound, Refused}
 use Rattle.sound.specs.Fault.{Fault, chainLayout, policyLayout}
 
--- refusal m at the word q goes before refusal n at the word p
-abbrev pub Before : ℕ → ℕ → ℕ → ℕ → Type 0
-Before m q n p = (m < n) ⊎ ((m ≡ n) × (q < p))
-
--- of the faults F this one goes before all others
-pub record First (F : ℕ → ℕ → Type 0) (n p : ℕ) : Type 0 where
-  pub due : F n p
-  pub before : (m q : ℕ) → Before m q n p → F m q → ⊥
-
--- the answer that the faults of a bundle ask for: sound if there is none, and else the first, with the bundle's name and the word
-abbrev pub Verdict : (ℕ → ℕ → Type 0) → Bundle → Checked → Type 0
-Verdict F k Sound = (n p : ℕ) → F n p → ⊥
-Verdict F k (Refused n j Nothing) = ⊥
-Verdict F k (Refused n j (Word p)) = (j ≡ k) × First F n p
-Verdict F k (Refused n j (Certificate i)) = ⊥
-Verdict F k (Refused n j (Pair i h)) = ⊥
-
--- the chain's bundle
-unfoldable pub ChainVerdict : List ℕ → List ℕ → Checked → Type 0
-ChainVerdict w b = Verdict (Fault (chainLayout w b) w b) Chain
-
--- the policy's bundle
-unfoldable pub PolicyVerdict : List ℕ → List ℕ → Checked → Type 0
-PolicyVerdict w b = Verdict (Fault (policyLayout w b) w b) Policy
-
 -- ---- document 01's numbers and values of an answer
 -- 0 for the chain's bundle, 1 for the policy's
 abbrev pub bundleNumber : Bundle → ℕ
@@ -61,3 +36,26 @@ placeSecond Nothing = 0
 placeSecond (Word p) = 0
 placeSecond (Certificate i) = 0
 placeSecond (Pair i j) = j .0
+
+-- ---- the first fault
+-- refusal m at the word q goes before refusal n at the word p
+abbrev pub Before : ℕ → ℕ → ℕ → ℕ → Type 0
+Before m q n p = (m < n) ⊎ ((m ≡ n) × (q < p))
+
+-- of the faults F this one goes before all others
+pub record First (F : ℕ → ℕ → Type 0) (n p : ℕ) : Type 0 where
+  pub due : F n p
+  pub before : (m q : ℕ) → Before m q n p → F m q → ⊥
+
+-- the answer that the faults of a bundle ask for: sound if there is none, and else the first, with the bundle's number, and a word as its place
+abbrev pub Verdict : (ℕ → ℕ → Type 0) → Bundle → Checked → Type 0
+Verdict F k Sound = (n p : ℕ) → F n p → ⊥
+Verdict F k (Refused n j q) = (bundleNumber j ≡ bundleNumber k) × (placeKind q ≡ 1) × First F n (placeFirst q)
+
+-- the chain's bundle
+unfoldable pub ChainVerdict : List ℕ → List ℕ → Checked → Type 0
+ChainVerdict w b = Verdict (Fault (chainLayout w b) w b) Chain
+
+-- the policy's bundle
+unfoldable pub PolicyVerdict : List ℕ → List ℕ → Checked → Type 0
+PolicyVerdict w b = Verdict (Fault (policyLayout w b) w b) Policy

@@ -1,0 +1,4 @@
+pub mod Codes
+pub mod Gives
+pub mod Same
+pub mod Whole

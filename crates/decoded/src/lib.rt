@@ -1,0 +1,1 @@
+// Theorems only: what a sound bundle gives to those who read it, and that its decoding loses nothing.
