@@ -6,11 +6,11 @@ use native.Mathlib.Nat.{mul-le-mul-left, zero-mul, mul-zero, mul-suc, add-zero}
 use native.Mathlib.Numerals.{add-one}
 use mathlib.Core.Path.{_≡_, refl, sym, ap, _∙_}
 use mathlib.Core.List.{List, [], _∷_, _++_}
-use mathlib.Core.Bool.{Bool, true, false, _&&_, _||_}
+use mathlib.Core.Bool.{Bool, true, false, _&&_, _||_, true≢false}
 use lib.Dec.{eqb, ltb}
 use lib.ListN.{length}
-use borrow.Author.Tests.{lt-ltb, le-ltb}
-use Rattle.laws.specs.Lists.{least}
+use borrow.Author.Tests.{ltb-true, lt-ltb, le-ltb, ne-eqb}
+use Rattle.laws.specs.Lists.{least, pick}
 use Rattle.laws.proofs.Loops.{least-here, least-next}
 use Rattle.table.specs.Table.{word, countOf, offsetOf}
 use Rattle.table.specs.declared.Section.{Section}
@@ -26,7 +26,7 @@ use Rattle.sound.specs.declared.Rows.{Rows}
 use Rattle.sound.specs.declared.Test.{Test}
 use Rattle.sound.specs.declared.Line.{Line}
 use Rattle.sound.specs.Fault.{noRows, rangeRows, rowsOf, rowAt, misplaced, Fits, AllFit}
-use Rattle.sound.specs.Search.{earlierOf, foundSection, firstRow, foundAt, foundIn, foundEach}
+use Rattle.sound.specs.Search.{earlierOf, settled, foundSection, firstRow, foundAt, foundIn, foundEach}
 use Rattle.sound.specs.Wrong.{wrong}
 
 -- ---- the earlier of two faults
@@ -138,6 +138,19 @@ module _ (p : ℕ → Bool) (at size i count : ℕ) {q : ℕ} {whole : ℕ} {r :
 pub row-by-test : (w b : List ℕ) (l : Line) (r : Rows) {i : ℕ} (t : Test) → l .test ≡ t → i ≡ least (λ k. wrong t w b (rowAt r k) (l .word)) 0 (r .count) → i ≡ firstRow w b l r
 unfolding firstRow
 row-by-test w b l r t e h = h ∙ rw (← e) refl
+
+-- a line whose number can't win any more
+module _ (w b : List ℕ) (l : Line) where
+  late : (m q p : ℕ) (t : Bool) → m < l .number → At m q ≡ earlierOf (At m q) (pick t (At (l .number) p) Clear)
+  late m q p true h = rw (le-ltb (l .number) m (omega arith), ne-eqb (l .number) m (λ e. omega arith)) refl
+  late m q p false h = refl
+
+  pub line-late : (f : Found) → settled f (l .number) ≡ true → f ≡ earlierOf f (foundIn w b l)
+  unfolding foundIn foundAt
+  line-late Clear h = absurd (true≢false (sym h))
+  line-late (At m q) h =
+      let r = rowsOf w (l .block) in
+      late m q (rowAt r (firstRow w b l r) + l .word) (ltb (firstRow w b l r) (r .count)) (ltb-true m (l .number) h)
 
 -- ---- a line
 module _ (w b : List ℕ) (l : Line) (f : Found) {r : Rows} (e : r ≡ rowsOf w (l .block)) {i : ℕ} (t : i ≡ firstRow w b l r) where

@@ -1,7 +1,7 @@
 -- How the code searches for the first fault. Only private contracts cite this; that it finds the first is proved in proofs/. Assumes nothing.
 use Prim.Native.Nat.{ℕ, _+_}
 use mathlib.Core.List.{List, [], _∷_}
-use mathlib.Core.Bool.{_&&_, _||_}
+use mathlib.Core.Bool.{Bool, false, _&&_, _||_}
 use lib.Dec.{eqb, ltb}
 use Rattle.laws.specs.Lists.{least, pick}
 use Rattle.table.specs.declared.Section.{Section}
@@ -17,6 +17,11 @@ abbrev pub earlierOf : Found → Found → Found
 earlierOf Clear g = g
 earlierOf (At n p) Clear = At n p
 earlierOf (At n p) (At m q) = pick (ltb m n || (eqb m n && ltb q p)) (At m q) (At n p)
+
+-- a fault was found that goes before every fault of refusal n
+abbrev pub settled : Found → ℕ → Bool
+settled Clear n = false
+settled (At m q) n = ltb m n
 
 -- the first wrong row of a line, or their number
 unfoldable pub firstRow : List ℕ → List ℕ → Line → Rows → ℕ

@@ -8,7 +8,7 @@ ghost use Rattle.laws.specs.Lists.{least};
 ghost use Rattle.table.specs.Table.{word as wordOf, countOf};
 ghost use Rattle.sound.specs.Answer.{ChainVerdict, PolicyVerdict};
 ghost use Rattle.sound.specs.Fault.{rowsOf, rowAt, misplaced, Fits, AllFit, tooLarge, mostCerts, edition};
-ghost use Rattle.sound.specs.Search.{earlierOf, foundSection, firstRow, foundIn, foundEach};
+ghost use Rattle.sound.specs.Search.{earlierOf, settled, foundSection, firstRow, foundIn, foundEach};
 ghost use Rattle.sound.specs.Tables.{line, chainSections, policySections, tablesOut, certStringsOut, certRangesOut, codesOver, marksOver, namesHigh, chainLines, listsOut, entriesHigh, policyLines};
 ghost use Rattle.model.specs.Sections.{chainHeader, policyHeader, certs};
 ghost use Rattle.sound.specs.Wrong.{noString, noOptional, noRange, over, there, highString, stringOut, nameOut, somePart, extensionsWrong, wrong};
@@ -455,10 +455,23 @@ fn first_row(words: &[u64], bytes: &[u8], l: Line, r: Rows) -> usize
     }
 }
 
+// Whether a fault was found that goes before every fault of refusal n.
+fn is_settled(f: Found, n: u64) -> bool
+    ensures { λ r. ⌜ r ≡ settled f n ⌝ }
+{
+    match f {
+        Found::Clear => false,
+        Found::At(m, _) => m < n,
+    }
+}
+
 fn with_line(words: &[u64], bytes: &[u8], f: Found, l: Line) -> Found
     requires { ⌜ Fits (now words) l ⌝ }
     ensures { λ r. ⌜ r ≡ earlierOf f (foundIn (now (words .entry)) (now (bytes .entry)) l) ⌝ }
 {
+    if is_settled(f, l.number) {
+        return f;
+    }
     let block = l.block;
     let r = rows_of(words, block);
     let i = first_row(words, bytes, l, r);
