@@ -8,22 +8,26 @@ use Rattle.model.specs.Model.{Bytes, Attribute, Rdn, Name}
 use Rattle.names.specs.declared.Values.{Values}
 use Rattle.names.specs.declared.Values.the-variants.{AsGiven, Normalised}
 
--- attribute k of an RDN (past the end, where nothing asks, one without bytes)
-abbrev pub attributeOf : Rdn → ℕ → Attribute
-attributeOf r k = getD r k (record { oid = []; value = [] })
+-- what stands for an attribute past the end; nothing below asks for it
+abbrev pub noAttribute : Attribute
+noAttribute = record { oid = []; value = [] }
 
--- RDN k of a name (past the end, where nothing asks, one without attributes)
+-- attribute k of an RDN
+abbrev pub attributeOf : Rdn → ℕ → Attribute
+attributeOf r k = getD r k noAttribute
+
+-- RDN k of a name
 abbrev pub rdnOf : Name → ℕ → Rdn
 rdnOf n k = getD n k []
 
 -- a value as it is compared
-unfoldable pub asked : Values → Bytes → Bytes
-asked AsGiven a = a
-asked Normalised a = normalizeString a
+unfoldable pub compared : Values → Bytes → Bytes
+compared AsGiven a = a
+compared Normalised a = normalizeString a
 
 -- OIDs and values are equal
 abbrev pub SameAttr : Values → Attribute → Attribute → Type 0
-SameAttr v x y = (x .oid ≡ y .oid) × (asked v (x .value) ≡ asked v (y .value))
+SameAttr v x y = (x .oid ≡ y .oid) × (compared v (x .value) ≡ compared v (y .value))
 
 -- the lengths are equal, and for every k below them the attributes are the same
 abbrev pub SameRdn : Values → Rdn → Rdn → Type 0
