@@ -11,10 +11,12 @@ Two others compare the rows of two ranges in step, the lengths first:
     front  let n = size(x); if size(y) < n { return false; }
     both   let mut k = 0; while k < n { let i = x.from + k; let j = y.from + k; if TEST(.., No(i), No(j)) { k += 1; } else { return false; } } true
 
-A row of the table gives the crate, the function, the kind, the parameters and locals that the loop still reads (in the prover's order, the
-bound last), the function that tests a row, that test as a definition, how a row's number is read, what the function is to answer with the
-place of the rows in it, what has to be seen through to start, and the imports of these. Where there are calls before a loop over one range,
-`before` names them, the last one last, and `asks` says which of them gives what the test asks. The laws are in crates/laws/proofs/Loops.antt and Pairs.antt."""
+A row of the table gives the crate, the function (`module::function` where it stands in one), the kind, the parameters and
+locals that the loop still reads (in the prover's order, the bound last), the function that tests a row, that test as a
+definition, how a row's number is read, what the function is to answer (left out where it is just the kind of the test and
+the rows), what has to be seen through to start, and the imports of these. Where calls stand before a loop over one range,
+`before` names them in order, and `asks` says which of them gives what the test requires. The laws are in
+crates/laws/proofs/Loops.antt and Pairs.antt."""
 
 ROWS = [
     {
@@ -87,7 +89,8 @@ def fact(depth, rest):
 
 
 def dashed(name):
-    return name.replace("_", "-")
+    """The prover's name of a function, which may stand in a module."""
+    return name.split("::")[-1].replace("_", "-")
 
 
 def law(name, *facts):
@@ -153,7 +156,7 @@ def two_ranges(row):
 
 
 def imports(row, two):
-    kind, home = row["kind"], f"Rattle.{row['crate']}.proofs.{row['function']}"
+    kind, home = row["kind"], f"Rattle.{row['crate']}.proofs.{row['function'].replace('::', '.')}"
     laws = ", ".join(f"{'all' if two else kind}-{name}" for name in ("here", "next", "none"))
     pairs = {"each": "each-unequal, each-pairs", "front": "front-longer, front-pairs"}
     return [
@@ -191,4 +194,4 @@ def proof(row):
 
 def files():
     """Each path that this script writes, with what it writes there."""
-    return {f"crates/{row['crate']}/proofs/{row['function']}/Proof.antt": proof(row) for row in ROWS}
+    return {f"crates/{row['crate']}/proofs/{row['function'].replace('::', '/')}/Proof.antt": proof(row) for row in ROWS}

@@ -1,6 +1,6 @@
 -- What the functions of this crate lean on. Assumes nothing.
 use Prim.Native.Nat.{ℕ, _-_, _≤_, _<_}
-use mathlib.Core.Path.{_≡_, refl, sym, _∙_}
+use mathlib.Core.Path.{_≡_, refl}
 use mathlib.Core.Bool.{Bool, true, false}
 use lib.Dec.{leb}
 use lib.ListN.{length}
@@ -11,7 +11,7 @@ use Rattle.laws.proofs.Tests.{and-then, and-stop}
 use Rattle.normal.specs.Normal.{sameNormal}
 use Rattle.table.specs.Table.{over}
 use Rattle.table.specs.declared.Range.{Range}
-use Rattle.model.specs.Model.{Bytes, Attribute, Rdn}
+use Rattle.model.specs.Model.{Bytes, Attribute}
 use Rattle.names.specs.declared.Values.{Values}
 use Rattle.names.specs.declared.Values.the-variants.{AsGiven, Normalised}
 use Rattle.names.specs.Names.{sameValue, sameAttr, rdnHasName, isSubtreeRdn}

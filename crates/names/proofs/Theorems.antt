@@ -1,5 +1,4 @@
 -- What the definitions of names mean: the same said another way, and laws that test them. Assumes nothing.
-use Prim.Native.Nat.{ℕ, _≤_, _<_}
 use native.Mathlib.Omega.{arith}
 use mathlib.Core.Path.{_≡_, refl, sym, ap, ap₂, _∙_}
 use mathlib.Core.Logic.{_↔_}
@@ -19,7 +18,7 @@ use Rattle.model.specs.Model.{Bytes, Attribute, Rdn, Name}
 use Rattle.names.specs.declared.Values.{Values}
 use Rattle.names.specs.declared.Values.the-variants.{AsGiven, Normalised}
 use Rattle.names.specs.Names.{sameValue, sameAttr, sameRdn, sameDn, rdnHasName, isSubtreeRdn, isSubtreeOf}
-use Rattle.names.specs.Stated.{noAttribute, attributeOf, compared, SameAttr, SameRdn, SameDn, RdnHasName, IsSubtreeRdn, IsSubtreeOf}
+use Rattle.names.specs.Stated.{noAttribute, compared, SameAttr, SameRdn, SameDn, RdnHasName, IsSubtreeRdn, IsSubtreeOf}
 
 -- both halves of an `&&`, from the two
 both : {p q : Bool} → p ≡ true → q ≡ true → (p && q) ≡ true

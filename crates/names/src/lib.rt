@@ -135,7 +135,7 @@ pub fn rdn_has_name(words: &[u64], bytes: &[u8], v: Values, r: Range, a: Attribu
     false
 }
 
-// Whether the RDN y has each attribute of x.
+// Whether the RDN y has each attribute of the RDN x, both as ranges of attributes.
 fn has_names(words: &[u64], bytes: &[u8], v: Values, x: Range, y: Range) -> bool
     ensures { λ r. ⌜ r ≡ all (rdnHasName v (rdnIn (now (words .entry)) (now (bytes .entry)) y)) (rdnIn (now (words .entry)) (now (bytes .entry)) x) ⌝ }
 {
