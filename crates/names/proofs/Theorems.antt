@@ -46,6 +46,7 @@ module _ (v : Values) where
   same-attr-means x y = (to, from) where
     to : sameAttr v x y ≡ true → SameAttr v x y
     to h = (equal-list _ _ (and-left _ _ h), same-value-means v _ _ .0 (and-right (eqList (x .oid) (y .oid)) _ h))
+
     from : SameAttr v x y → sameAttr v x y ≡ true
     from (o, w) = both (list-equal _ _ o) (same-value-means v _ _ .1 w)
 
@@ -54,6 +55,7 @@ module _ (v : Values) where
   same-rdn-means r s = (to, from) where
     to : sameRdn v r s ≡ true → SameRdn v r s
     to h = (each-lengths _ r s h, λ k l. same-attr-means _ _ .0 (each-index _ noAttribute noAttribute r s h k l))
+
     from : SameRdn v r s → sameRdn v r s ≡ true
     from (e, f) = index-each _ noAttribute noAttribute r s e (λ k l. same-attr-means _ _ .1 (f k l))
 
@@ -62,6 +64,7 @@ module _ (v : Values) where
   same-dn-means n m = (to, from) where
     to : sameDn v n m ≡ true → SameDn v n m
     to h = (each-lengths _ n m h, λ k l. same-rdn-means _ _ .0 (each-index _ [] [] n m h k l))
+
     from : SameDn v n m → sameDn v n m ≡ true
     from (e, f) = index-each _ [] [] n m e (λ k l. same-rdn-means _ _ .1 (f k l))
 
@@ -70,6 +73,7 @@ module _ (v : Values) where
   rdn-has-name-means r x = (to, from) where
     to : rdnHasName v r x ≡ true → RdnHasName v r x
     to h = let (k, l, m, e) = any-index noAttribute (λ y. sameAttr v y x) r h in (k, m, same-attr-means _ _ .0 e)
+
     from : RdnHasName v r x → rdnHasName v r x ≡ true
     from (k, m, e) = index-any noAttribute (λ y. sameAttr v y x) r (k, omega arith, m, same-attr-means _ _ .1 e)
 
@@ -78,6 +82,7 @@ module _ (v : Values) where
   is-subtree-rdn-means r s = (to, from) where
     to : isSubtreeRdn v r s ≡ true → IsSubtreeRdn v r s
     to h = (leb-true _ _ (and-left _ _ h), λ k l. rdn-has-name-means s _ .0 (all-index noAttribute (rdnHasName v s) r (and-right (leb (length r) (length s)) _ h) k (omega arith) l))
+
     from : IsSubtreeRdn v r s → isSubtreeRdn v r s ≡ true
     from (e, f) = both (le-leb _ _ e) (index-all noAttribute (rdnHasName v s) r (λ k l m. rdn-has-name-means s _ .1 (f k m)))
 
@@ -86,10 +91,11 @@ module _ (v : Values) where
   is-subtree-of-means n m = (to, from) where
     to : isSubtreeOf v n m ≡ true → IsSubtreeOf v n m
     to h = let (e, f) = front-index _ [] [] n m h in (e, λ k l. is-subtree-rdn-means _ _ .0 (f k l))
+
     from : IsSubtreeOf v n m → isSubtreeOf v n m ≡ true
     from (e, f) = index-front _ [] [] n m e (λ k l. is-subtree-rdn-means _ _ .1 (f k l))
 
-  -- ---- to be the same is an equivalence
+  -- ---- to be the same: each is the same as itself, it is asked either way round, and what is the same as a third is the same
   pub same-attr-itself : (x : Attribute) → sameAttr v x x ≡ true
   same-attr-itself x = same-attr-means x x .1 (refl, refl)
 
@@ -167,7 +173,7 @@ module _ (v : Values) where
   unfolding isSubtreeRdn rdnHasName all any
   serves-twice x y = rw (same-attr-itself x) refl
 
--- ---- what holds of values as they stand, holds of their normal forms
+-- ---- what is the same, found or a subtree with values as they stand, is so with normal forms too
 normal-value : (a b : Bytes) → sameValue AsGiven a b ≡ true → sameValue Normalised a b ≡ true
 unfolding sameValue
 normal-value a b h = forms-same a b (ap normalizeString (equal-list a b h))
