@@ -10,7 +10,7 @@ use lib.Dec.{eqb, ltb}
 use borrow.Author.Tests.{eqb-false, eq-eqb, lt-ltb, le-ltb}
 use Rattle.laws.specs.Lists.{pick}
 use Rattle.model.specs.Decode.{unlessZero, markOf, keyOf, flagOf, bitOf, signedOf, extensionsOf, kuAt, certWord}
-use Rattle.decoded.specs.Words.{whether, ifThere, markWord, keyWord, keyBits, flagWord, signedWord, bitsWord, extensionsWord, said, given}
+use Rattle.decoded.specs.Words.{whether, wherePresent, markWord, keyWord, keyBits, flagWord, signedWord, bitsWord, extensionsWord, said, given}
 
 -- ---- something that is there unless a word is 0
 module _ {A : Type 0} (f : A → ℕ) (x : A) where
@@ -19,7 +19,7 @@ module _ {A : Type 0} (f : A → ℕ) (x : A) where
   by-test false y h = h refl
 
   -- a word of a part
-  pub part-word : (m y : ℕ) → ((m ≡ 0 → ⊥) → y ≡ f x) → ifThere m y ≡ said f (unlessZero m x)
+  pub part-word : (m y : ℕ) → ((m ≡ 0 → ⊥) → y ≡ f x) → wherePresent m y ≡ said f (unlessZero m x)
   unfolding unlessZero
   part-word m y h = by-test (eqb m 0) y (λ e. h (eqb-false m 0 e))
 

@@ -14,8 +14,8 @@ abbrev pub whether : ℕ → ℕ
 whether n = pick (eqb n 0) 0 1
 
 -- a word that is read only where another one is not 0, and else counts as 0
-abbrev pub ifThere : ℕ → ℕ → ℕ
-ifThere m n = pick (eqb m 0) 0 n
+abbrev pub wherePresent : ℕ → ℕ → ℕ
+wherePresent m n = pick (eqb m 0) 0 n
 
 -- The words of a row that are read, in order; one that is not read counts as 0. Of the numbers of strings it is kept whether there is a string, of the ranges how many rows they have: where
 -- strings and rows stand is nothing that a decoded certificate knows.
@@ -36,29 +36,29 @@ readWords v =
     ∷ whether (v 14)
     -- AKI: its key id, issuer, serial
     ∷ v 15
-    ∷ ifThere (v 15) (whether (v 16))
-    ∷ ifThere (v 15) (whether (v 17))
-    ∷ ifThere (v 15) (whether (v 18))
+    ∷ wherePresent (v 15) (whether (v 16))
+    ∷ wherePresent (v 15) (whether (v 17))
+    ∷ wherePresent (v 15) (whether (v 18))
     -- SKI
     ∷ v 19
     -- EKU: its usages
     ∷ v 21
-    ∷ ifThere (v 21) (v 23)
+    ∷ wherePresent (v 21) (v 23)
     -- BC: CA, path length present, path length
     ∷ v 24
-    ∷ ifThere (v 24) (v 25)
-    ∷ ifThere (v 24) (v 26)
-    ∷ ifThere (v 24) (ifThere (v 26) (v 27))
+    ∷ wherePresent (v 24) (v 25)
+    ∷ wherePresent (v 24) (v 26)
+    ∷ wherePresent (v 24) (wherePresent (v 26) (v 27))
     -- KU: its bits
     ∷ v 28
-    ∷ ifThere (v 28) (v 29)
+    ∷ wherePresent (v 28) (v 29)
     -- SAN: its names
     ∷ v 30
-    ∷ ifThere (v 30) (v 32)
+    ∷ wherePresent (v 30) (v 32)
     -- NC: permitted, excluded
     ∷ v 33
-    ∷ ifThere (v 33) (v 35)
-    ∷ ifThere (v 33) (v 37)
+    ∷ wherePresent (v 33) (v 35)
+    ∷ wherePresent (v 33) (v 37)
     -- policies, AIA, any extensions
     ∷ v 38
     ∷ v 39
