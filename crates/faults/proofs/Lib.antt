@@ -1,0 +1,4 @@
+pub mod Counts
+pub mod Index
+pub mod Laws
+pub mod Theorems

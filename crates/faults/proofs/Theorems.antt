@@ -1,0 +1,159 @@
+-- What is so of every report, over any tests T and any table P of places: each theorem is one sentence, and needs no proof to be read. Assumes nothing.
+use Prim.Native.Nat.{ℕ, zero, suc, _+_, _-_, _*_, _/_, _≤_, _<_}
+use native.Mathlib.Omega.{arith}
+use native.Mathlib.Decide.{decLt}
+use native.Mathlib.Nat.{mul-le-mul-right, one-mul}
+use mathlib.Core.Path.{_≡_, refl, sym, ap, subst, _∙_}
+use mathlib.Core.Logic.{_⊎_, inl, inr, ⊎-elim, _↔_}
+use mathlib.Core.List.{List, [], _∷_, List·Memᴰ·head, List·Memᴰ·tail, List·Memᴰ·not-nil, List·Memᴰ·cases-cons, List·Memᴰ·eq-of-singleton}
+use mathlib.Core.Bool.{Bool, true}
+use borrow.Author.Tests.{lt-ltb, le-ltb}
+use lib.Dec.{ltb}
+use lib.ListN.{length, getD, take, drop}
+use Rattle.faults.specs.Report.{wordsOf, write, fitting, firstOf, mostCount, Wrote}
+use Rattle.faults.specs.Places.{IsPlace, shortEntry, index, fullIndex}
+use Rattle.faults.specs.Order.{In, Less, Ascending, DueShort, DueBroken, Due, NoneFrom}
+use Rattle.faults.specs.Count.{sum, placesCount, singleRules, pairRules}
+use Rattle.faults.specs.declared.Spot.{Spot}
+use Rattle.faults.specs.declared.Entry.{Entry}
+use Rattle.faults.specs.declared.First.{First}
+use Rattle.faults.specs.declared.First.the-variants.{Clear, Broken}
+use Rattle.faults.specs.declared.Tally.{Tally}
+use Rattle.faults.specs.declared.Places.{Places}
+use Rattle.faults.proofs.Counts.{index-length, table-most}
+use Rattle.faults.proofs.Index.{index-in, in-index, index-ascends, less-asym, only-one}
+use Rattle.faults.proofs.Laws.{length-write, write-past, write-entry}
+
+-- ---- writing
+
+-- The buffer keeps its length.
+pub keeps-length : (es : List Entry) (b : List ℕ) → length (write es b) ≡ length b
+keeps-length = length-write
+
+-- Entry k is at the words 3k to 3k + 2, if it is one of those that fit.
+pub entry-at : (es : List Entry) (b : List ℕ) (k : ℕ) (d : Entry) → k < fitting es b → take 3 (drop (3 * k) (write es b)) ≡ wordsOf (getD es k d)
+entry-at = write-entry
+
+-- Behind the entries that fit, every word is as it was: none is cut.
+pub rest-stays : (es : List Entry) (b : List ℕ) → drop (3 * fitting es b) (write es b) ≡ drop (3 * fitting es b) b
+rest-stays es b = write-past es b (3 * fitting es b) refl
+
+-- A count is exact as long as it can be.
+pub total-exact : {es : List Entry} {old new : List ℕ} {t : Tally} → Wrote es old new t → length es ≤ mostCount → t .total ≡ length es
+total-exact w h = omega (arith, w .total-is)
+
+same-parts : {a a' b b' : ℕ} {f f' : First} → a ≡ a' → b ≡ b' → f ≡ f' → _≡_ {A = Tally} (record { total = a; written = b; first = f }) (record { total = a'; written = b'; first = f' })
+same-parts p q r = rw (p, q, r) refl
+
+-- Two answers of writers of the same entries are equal, and so are the words that they leave.
+pub one-outcome : {es : List Entry} {old new new' : List ℕ} {t t' : Tally} → Wrote es old new t → Wrote es old new' t' → (new ≡ new') × (t ≡ t')
+one-outcome w v = (
+  w .buffer ∙ sym (v .buffer),
+  same-parts (w .total-is ∙ sym (v .total-is)) (w .written-is ∙ sym (v .written-is)) (w .first-is ∙ sym (v .first-is)),
+)
+
+-- ---- order
+
+-- In an ascending list no entry stands twice.
+pub stands-once : (l : List Entry) (d : Entry) → Ascending l → (k m : ℕ) → k < m → m < length l → getD l k d ≡ getD l m d → ⊥
+stands-once [] d a k m h g e = omega arith
+stands-once (x ∷ l) d a k zero h g e = omega arith
+stands-once (x ∷ l) d a zero (suc m) h g e = let s : Less x x = subst (Less x) (sym e) (a .0 (getD l m d) (at-in l m (omega arith))) in less-asym x x s s where
+  at-in : (l : List Entry) (m : ℕ) → m < length l → In (getD l m d) l
+  at-in [] m g = absurd (omega arith)
+  at-in (x ∷ l) zero g = List·Memᴰ·head refl
+  at-in (x ∷ l) (suc m) g = List·Memᴰ·tail (at-in l m (omega arith))
+stands-once (x ∷ l) d a (suc k) (suc m) h g e = stands-once l d (a .1) k m (omega arith) (omega arith) e
+
+-- The first entry of an ascending list goes before all others.
+pub head-least : (l : List Entry) → Ascending l → (f : Entry) → firstOf l ≡ Broken f → In f l × ((e : Entry) → In e l → (e ≡ f) ⊎ Less f e)
+head-least [] a f h = absurd (let z : _≡_ {A = ℕ} 0 1 = cc in omega arith)
+head-least (x ∷ l) a f h =
+    let q : x ≡ f = cc in
+    rw (← q) (List·Memᴰ·head refl, λ e m. ⊎-elim (λ (d : e ≡ x). inl d) (λ (k : In e l). inr (a .0 e k)) (List·Memᴰ·cases-cons m))
+
+-- A list without a first entry is empty.
+pub no-head : (l : List Entry) → firstOf l ≡ Clear → (e : Entry) → In e l → ⊥
+no-head [] h e m = List·Memᴰ·not-nil m
+no-head (x ∷ l) h e m = let z : _≡_ {A = ℕ} 0 1 = cc in omega arith
+
+pub empty-head : (l : List Entry) → ((e : Entry) → In e l → ⊥) → firstOf l ≡ Clear
+empty-head [] h = refl
+empty-head (x ∷ l) h = absurd (h x (List·Memᴰ·head refl))
+
+-- ---- the index of a chain
+
+module _ (short : ℕ) (T : ℕ → Spot → Bool) (P : ℕ → Places) (rules n : ℕ) where
+  -- the whole index, and what is due
+  abbrev Whole : List Entry
+  Whole = fullIndex short T P rules n
+
+  abbrev DueHere : Entry → Type 0
+  DueHere = Due short T P n
+
+  whole-short : n < 2 → Whole ≡ shortEntry short ∷ []
+  unfolding fullIndex
+  whole-short h = rw (lt-ltb n 2 h)
+
+  whole-long : 2 ≤ n → Whole ≡ index T P n rules
+  unfolding fullIndex
+  whole-long h = rw (le-ltb n 2 h)
+
+  -- Only what is due stands in the index.
+  pub sound : (e : Entry) → In e Whole → DueHere e
+  sound e m = elim (decLt n 2) [
+    | yes h ↦ inl (record { few = h; is = List·Memᴰ·eq-of-singleton (rw (whole-short h) at m) })
+    | no h ↦ let g : 2 ≤ n = omega arith in let o = index-in T P n rules e (rw (whole-long g) at m) in inr (record { enough = g; place = o .1; broken = o .2 })
+  ]
+
+  -- The index ascends by rule, i and j.
+  pub ascends : Ascending Whole
+  ascends = elim (decLt n 2) [
+    | yes h ↦ rw (whole-short h) (λ y m. absurd (List·Memᴰ·not-nil m), tt)
+    | no h ↦ let g : 2 ≤ n = omega arith in rw (whole-long g) (index-ascends T P n rules)
+  ]
+
+  -- Of fewer than two certificates there is one entry.
+  pub short-length : n < 2 → length Whole ≡ 1
+  short-length h = ap length (whole-short h)
+
+  -- There are no more entries than places.
+  pub places-bound : 2 ≤ n → length Whole ≤ sum (λ r. placesCount (P r) n) rules
+  places-bound h = rw (whole-long h) (index-length T P n rules)
+
+  -- With at most k rules that ask each certificate at most once, and at most one that asks all pairs, there are at most kn + n(n - 1)/2 entries.
+  pub bound : (k : ℕ) → 1 ≤ k → 1 ≤ n → singleRules P rules ≤ k → pairRules P rules ≤ 1 → length Whole ≤ k * n + n * (n - 1) / 2
+  bound k o l s q =
+      let a : singleRules P rules * n ≤ k * n = mul-le-mul-right n s in
+      let b : pairRules P rules * (n * (n - 1) / 2) ≤ 1 * (n * (n - 1) / 2) = mul-le-mul-right (n * (n - 1) / 2) q in
+      let d : 1 * n ≤ k * n = mul-le-mul-right n o in
+      elim (decLt n 2) [
+        | yes h ↦ omega (arith, short-length h)
+        | no h ↦ omega (arith, places-bound (omega arith), table-most P n rules l)
+      ]
+
+  -- ---- where the table has no rule from `rules` on
+  module _ (no-more : NoneFrom P rules) where
+    -- All that is due stands in the index.
+    pub complete : (e : Entry) → DueHere e → In e Whole
+    unfolding IsPlace
+    complete e (inl d) = rw (whole-short (d .few), d .is) (List·Memᴰ·head refl)
+    complete e (inr d) = rw (whole-long (d .enough)) (in-index T P n rules e known (d .place) (d .broken)) where
+      known : e .rule .0 < rules
+      known = elim (decLt (e .rule .0) rules) [ yes h ↦ h | no h ↦ absurd (subst (λ (p : Places). IsPlace p n (e .spot)) (no-more (e .rule .0) (omega arith)) (d .place)) ]
+
+    -- An entry stands in the index exactly when it is due.
+    pub exactly : (e : Entry) → In e Whole ↔ DueHere e
+    exactly e = (sound e, complete e)
+
+    -- A list that ascends and holds exactly what is due is the index.
+    pub only : (l : List Entry) → Ascending l → ((e : Entry) → In e l ↔ DueHere e) → l ≡ Whole
+    only l a h = only-one l Whole a ascends (λ e m. complete e (h e .0 m)) (λ e m. h e .1 (sound e m))
+
+    -- The first entry is due and goes before all others that are.
+    pub first-least : (f : Entry) → firstOf Whole ≡ Broken f → DueHere f × ((e : Entry) → DueHere e → (e ≡ f) ⊎ Less f e)
+    first-least f h = let (m, g) = head-least Whole ascends f h in (sound f m, λ e d. g e (complete e d))
+
+    -- There is no first entry exactly if none is due.
+    pub first-clear : (firstOf Whole ≡ Clear) ↔ ((e : Entry) → DueHere e → ⊥)
+    first-clear = (λ h e d. no-head Whole h e (complete e d), λ h. empty-head Whole (λ e m. h e (sound e m)))

@@ -1,0 +1,4 @@
+pub mod Count
+pub mod Order
+pub mod Places
+pub mod Report
