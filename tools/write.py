@@ -6,9 +6,10 @@ import sys
 import bundles
 import byte_table
 import loops
+import reports
 import searches
 
-MAKERS = [bundles, byte_table, loops, searches]
+MAKERS = [bundles, byte_table, loops, reports, searches]
 TOP = pathlib.Path(__file__).resolve().parent.parent
 
 

@@ -60,16 +60,20 @@ length-one true e = omega arith
 length-one false e = omega arith
 
 module _ (T : ℕ → Spot → Bool) where
+  length-asked : (r : ℕ) (s : Spot) → length (asked T r s) ≤ 1
+  unfolding asked
+  length-asked r s = length-one (T r s) _
+
   -- at most one entry at each of n spots
   length-spots : (r : ℕ) (s : ℕ → Spot) (n : ℕ) → length (gather (λ (k : ℕ). asked T r (s k)) n) ≤ n
-  length-spots r s n = omega (arith, length-gather (λ (k : ℕ). asked T r (s k)) (λ k. 1) (λ k. length-one (T r (s k)) _) n, sum-ones n)
+  length-spots r s n = omega (arith, length-gather (λ (k : ℕ). asked T r (s k)) (λ k. 1) (λ k. length-asked r (s k)) n, sum-ones n)
 
   rule-length : (p : Places) (r n : ℕ) → length (entriesAt T p r n) ≤ placesCount p n
-  unfolding entriesAt placesCount
+  unfolding entriesAt row placesCount
   rule-length Nowhere r n = omega arith
-  rule-length Leaf r n = length-one _ _
-  rule-length Root r n = length-one _ _
-  rule-length LeafAndRoot r n = length-one _ _
+  rule-length Leaf r n = length-asked r _
+  rule-length Root r n = length-asked r _
+  rule-length LeafAndRoot r n = length-asked r _
   rule-length (Each f b) r n = length-spots r (λ k. certificate (f .0 + k)) (n - b - f .0)
   rule-length Neighbours r n = length-spots r (λ k. pair k (k + 1)) (n - 1)
   rule-length (Pairs f b) r n =

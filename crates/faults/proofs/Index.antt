@@ -69,9 +69,15 @@ asc-gather f a o (suc n) =
 module _ (T : ℕ → Spot → Bool) where
   -- what stands at s is the entry of r at s, broken there
   asked-in : (r : ℕ) (s : Spot) {e : Entry} → In e (asked T r s) → (T r s ≡ true) × (e ≡ entry r s)
+  unfolding asked
   asked-in r s m = one-in m
 
+  in-asked : (r : ℕ) (s : Spot) → T r s ≡ true → In (entry r s) (asked T r s)
+  unfolding asked
+  in-asked r s h = in-one h
+
   asc-asked : (r : ℕ) (s : Spot) → Ascending (asked T r s)
+  unfolding asked
   asc-asked r s = asc-one (T r s) (entry r s)
 
   -- entries at spots that are a function of a number, whose words rise with it
@@ -85,13 +91,14 @@ module _ (T : ℕ → Spot → Bool) where
 
   -- an entry in the list of a row is of that row
   row-in : (r i n : ℕ) {e : Entry} → In e (row T r i n) → (j : ℕ) × (j < n) × (T r (pair i j) ≡ true) × (e ≡ entry r (pair i j))
+  unfolding row
   row-in r i n m =
       let g = gather-in (λ (j : ℕ). asked T r (pair i j)) n m in
       let o = asked-in r (pair i (g .0)) (g .2) in
       (g .0, g .1, o .0, o .1)
 
   asc-rule : (p : Places) (r n : ℕ) → Ascending (entriesAt T p r n)
-  unfolding entriesAt
+  unfolding entriesAt row
   asc-rule Nowhere r n = tt
   asc-rule Leaf r n = asc-asked r (certificate 0)
   asc-rule Root r n = asc-asked r (certificate (n - 1))
@@ -128,20 +135,20 @@ module _ (T : ℕ → Spot → Bool) where
 
   -- all that is broken at one of the places stands there
   in-rule : (p : Places) (r n : ℕ) (s : Spot) → IsPlace p n s → T r s ≡ true → In (entry r s) (entriesAt T p r n)
-  unfolding entriesAt IsPlace
+  unfolding entriesAt row IsPlace
   in-rule Nowhere r n s h t = absurd h
-  in-rule Leaf r n s h t = rw h (in-one (rw h at t))
-  in-rule Root r n s h t = rw h (in-one (rw h at t))
-  in-rule LeafAndRoot r n s h t = rw h (in-one (rw h at t))
+  in-rule Leaf r n s h t = rw h (in-asked r _ (rw h at t))
+  in-rule Root r n s h t = rw h (in-asked r _ (rw h at t))
+  in-rule LeafAndRoot r n s h t = rw h (in-asked r _ (rw h at t))
   in-rule (Each f b) r n s (i, l, u, e) t =
       let q : f .0 + (i - f .0) ≡ i = omega arith in
-      in-gather (λ (k : ℕ). asked T r (certificate (f .0 + k))) (n - b - f .0) (i - f .0) (omega arith) (rw (q, e) (in-one (rw e at t)))
+      in-gather (λ (k : ℕ). asked T r (certificate (f .0 + k))) (n - b - f .0) (i - f .0) (omega arith) (rw (q, e) (in-asked r _ (rw e at t)))
   in-rule Neighbours r n s (i, u, e) t =
-      in-gather (λ (k : ℕ). asked T r (pair k (k + 1))) (n - 1) i (omega arith) (rw e (in-one (rw e at t)))
+      in-gather (λ (k : ℕ). asked T r (pair k (k + 1))) (n - 1) i (omega arith) (rw e (in-asked r _ (rw e at t)))
   in-rule (Pairs f b) r n s (i, j, l, u, d, e) t =
       let q : f .0 + (i - f .0) ≡ i = omega arith in
       in-gather (λ (k : ℕ). row T r (f .0 + k) (f .0 + k)) (n - b - f .0) (i - f .0) (omega arith)
-      (rw q (in-gather (λ (j : ℕ). asked T r (pair i j)) i j d (rw e (in-one (rw e at t)))))
+      (rw q (in-gather (λ (j : ℕ). asked T r (pair i j)) i j d (rw e (in-asked r _ (rw e at t)))))
 
   module _ (P : ℕ → Places) (n rules : ℕ) where
     pub index-in : (e : Entry) → In e (index T P n rules) → (e .rule .0 < rules) × IsPlace (P (e .rule .0)) n (e .spot) × (T (e .rule .0) (e .spot) ≡ true)

@@ -7,12 +7,14 @@ use mathlib.Core.List.{List, [], _∷_, _++_, append-nil}
 use mathlib.Core.Bool.{Bool, true, false}
 use lib.ListN.{length, getD, take, drop, set, length-append, length-drop}
 use lib.Seq.{drop-length}
-use borrow.Author.Tests.{ne-eqb}
+use borrow.Author.Tests.{ne-eqb, lt-ltb, le-ltb}
 use borrow.Rule.Slice.PartMut.{putMid, post-is}
 use Rattle.laws.proofs.Parts.{rest}
-use Rattle.faults.specs.Report.{one, write, wordsOf, fitting, firstOf, mostCount, Wrote, noneYet, earlier, joined}
-use Rattle.faults.specs.Places.{gather, when}
+use Rattle.faults.specs.Report.{certificate, one, write, wordsOf, fitting, firstOf, mostCount, Wrote, noneYet, earlier, joined}
+use Rattle.faults.specs.Places.{gather, asked, row, shortEntry, index, fullIndex, when}
+use Rattle.faults.specs.declared.Spot.{Spot}
 use Rattle.faults.specs.declared.Entry.{Entry}
+use Rattle.faults.specs.declared.Places.{Places}
 use Rattle.faults.specs.declared.First.the-variants.{Clear, Broken}
 use Rattle.faults.specs.declared.Tally.{Tally}
 
@@ -132,8 +134,9 @@ wrote-then {a} {b} {old} {mid} {tail} {t} {u} h p q =
 
 -- ---- a loop of writers: f 0, f 1, ..
 
--- the first k of the writers have written. All but the last follow from it, and stand here for `omega` to read
+-- the first k of the writers have written. `same` and `room` follow from `wrote`, and stand here for `omega` to read
 pub record SoFar (f : ℕ → List Entry) (k : ℕ) (old new : List ℕ) (t : Tally) : Type 0 where
+  pub fits : length old ≤ mostCount
   pub same : length new ≡ length old
   pub room : 3 * t .written ≤ length new
   pub wrote : Wrote (gather f k) old new t
@@ -148,20 +151,41 @@ module _ (f : ℕ → List Entry) where
   gather-more k m e = rw (e, add-one)
 
   -- before the first turn
-  pub so-far-none : (l : List ℕ) (k : ℕ) → k ≡ 0 → SoFar f k l l noneYet
-  so-far-none l k e = record { same = refl; room = omega arith; wrote = rw (gather-none k e) (wrote-none l) }
+  pub so-far-none : (l : List ℕ) (k : ℕ) → length l ≤ mostCount → k ≡ 0 → SoFar f k l l noneYet
+  so-far-none l k h e = record { fits = h; same = refl; room = omega arith; wrote = rw (gather-none k e) (wrote-none l) }
 
   -- a turn: what it wrote, es, is f k
-  pub so-far-more : {k m : ℕ} {es : List Entry} {old mid tail : List ℕ} {t u v : Tally} → length old ≤ mostCount → m ≡ k + 1
+  pub so-far-more : {k m : ℕ} {es : List Entry} {old mid tail : List ℕ} {t u v : Tally} → m ≡ k + 1
       → SoFar f k old mid t → Wrote es (lent (3 * t .written) mid) tail u → es ≡ f k → v ≡ joined t u → SoFar f m old (back (3 * t .written) mid tail) v
-  so-far-more {k} {m} {es} {old} {mid} {tail} {t} {u} {v} h e p q s j =
-      let r : Wrote (gather f m) old (back (3 * t .written) mid tail) v = rw (gather-more k m e, ← s, j) (wrote-then h (p .wrote) q) in
+  so-far-more {k} {m} {es} {old} {mid} {tail} {t} {u} {v} e p q s j =
+      let r : Wrote (gather f m) old (back (3 * t .written) mid tail) v = rw (gather-more k m e, ← s, j) (wrote-then (p .fits) (p .wrote) q) in
       let n : length (back (3 * t .written) mid tail) ≡ length old = ap length (r .buffer) ∙ length-write (gather f m) old in
-      record { same = n; room = omega (arith, r .written-is); wrote = r }
+      record { fits = p .fits; same = n; room = omega (arith, r .written-is); wrote = r }
 
   -- after the last
   pub so-far-done : {k n : ℕ} {old new : List ℕ} {t : Tally} → SoFar f k old new t → n ≡ k → Wrote (gather f n) old new t
   so-far-done p e = rw e (p .wrote)
+
+-- turn i - a of a loop that starts at a is the one at i
+module _ (T : ℕ → Spot → Bool) (r : ℕ) {a i : ℕ} (h : a ≤ i) where
+  from-is : a + (i - a) ≡ i
+  from-is = omega arith
+
+  pub each-turn : asked T r (certificate i) ≡ asked T r (certificate (a + (i - a)))
+  each-turn = rw from-is refl
+
+  pub pairs-turn : row T r i i ≡ row T r (a + (i - a)) (a + (i - a))
+  pairs-turn = rw from-is refl
+
+-- ---- the whole index: of fewer than two certificates, and of more
+module _ (short : ℕ) (T : ℕ → Spot → Bool) (P : ℕ → Places) (rules n : ℕ) where
+  pub full-short : n < 2 → fullIndex short T P rules n ≡ shortEntry short ∷ []
+  unfolding fullIndex
+  full-short h = rw (lt-ltb n 2 h)
+
+  pub full-long : 2 ≤ n → fullIndex short T P rules n ≡ index T P n rules
+  unfolding fullIndex
+  full-long h = rw (le-ltb n 2 h)
 
 -- ---- a table by number: what stands past a line that is not the number's
 pub other : {A : Type 0} {r k : ℕ} {x : A} (a b : A) → (r ≡ k → ⊥) → x ≡ b → x ≡ when r k a b

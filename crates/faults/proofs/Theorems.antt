@@ -7,8 +7,6 @@ use mathlib.Core.Path.{_≡_, refl, sym, ap, subst, _∙_}
 use mathlib.Core.Logic.{_⊎_, inl, inr, ⊎-elim, _↔_}
 use mathlib.Core.List.{List, [], _∷_, List·Memᴰ·head, List·Memᴰ·tail, List·Memᴰ·not-nil, List·Memᴰ·cases-cons, List·Memᴰ·eq-of-singleton}
 use mathlib.Core.Bool.{Bool, true}
-use borrow.Author.Tests.{lt-ltb, le-ltb}
-use lib.Dec.{ltb}
 use lib.ListN.{length, getD, take, drop}
 use Rattle.faults.specs.Report.{wordsOf, write, fitting, firstOf, mostCount, Wrote}
 use Rattle.faults.specs.Places.{IsPlace, shortEntry, index, fullIndex}
@@ -22,7 +20,7 @@ use Rattle.faults.specs.declared.Tally.{Tally}
 use Rattle.faults.specs.declared.Places.{Places}
 use Rattle.faults.proofs.Counts.{index-length, table-most}
 use Rattle.faults.proofs.Index.{index-in, in-index, index-ascends, less-asym, only-one}
-use Rattle.faults.proofs.Laws.{length-write, write-past, write-entry}
+use Rattle.faults.proofs.Laws.{length-write, write-past, write-entry, full-short, full-long}
 
 -- ---- writing
 
@@ -91,35 +89,27 @@ module _ (short : ℕ) (T : ℕ → Spot → Bool) (P : ℕ → Places) (rules n
   abbrev DueHere : Entry → Type 0
   DueHere = Due short T P n
 
-  whole-short : n < 2 → Whole ≡ shortEntry short ∷ []
-  unfolding fullIndex
-  whole-short h = rw (lt-ltb n 2 h)
-
-  whole-long : 2 ≤ n → Whole ≡ index T P n rules
-  unfolding fullIndex
-  whole-long h = rw (le-ltb n 2 h)
-
   -- Only what is due stands in the index.
   pub sound : (e : Entry) → In e Whole → DueHere e
   sound e m = elim (decLt n 2) [
-    | yes h ↦ inl (record { few = h; is = List·Memᴰ·eq-of-singleton (rw (whole-short h) at m) })
-    | no h ↦ let g : 2 ≤ n = omega arith in let o = index-in T P n rules e (rw (whole-long g) at m) in inr (record { enough = g; place = o .1; broken = o .2 })
+    | yes h ↦ inl (record { few = h; is = List·Memᴰ·eq-of-singleton (rw (full-short short T P rules n h) at m) })
+    | no h ↦ let g : 2 ≤ n = omega arith in let o = index-in T P n rules e (rw (full-long short T P rules n g) at m) in inr (record { enough = g; place = o .1; broken = o .2 })
   ]
 
   -- The index ascends by rule, i and j.
   pub ascends : Ascending Whole
   ascends = elim (decLt n 2) [
-    | yes h ↦ rw (whole-short h) (λ y m. absurd (List·Memᴰ·not-nil m), tt)
-    | no h ↦ let g : 2 ≤ n = omega arith in rw (whole-long g) (index-ascends T P n rules)
+    | yes h ↦ rw (full-short short T P rules n h) (λ y m. absurd (List·Memᴰ·not-nil m), tt)
+    | no h ↦ let g : 2 ≤ n = omega arith in rw (full-long short T P rules n g) (index-ascends T P n rules)
   ]
 
   -- Of fewer than two certificates there is one entry.
   pub short-length : n < 2 → length Whole ≡ 1
-  short-length h = ap length (whole-short h)
+  short-length h = ap length (full-short short T P rules n h)
 
   -- There are no more entries than places.
   pub places-bound : 2 ≤ n → length Whole ≤ sum (λ r. placesCount (P r) n) rules
-  places-bound h = rw (whole-long h) (index-length T P n rules)
+  places-bound h = rw (full-long short T P rules n h) (index-length T P n rules)
 
   -- With at most k rules that ask each certificate at most once, and at most one that asks all pairs, there are at most kn + n(n - 1)/2 entries.
   pub bound : (k : ℕ) → 1 ≤ k → 1 ≤ n → singleRules P rules ≤ k → pairRules P rules ≤ 1 → length Whole ≤ k * n + n * (n - 1) / 2
@@ -137,8 +127,8 @@ module _ (short : ℕ) (T : ℕ → Spot → Bool) (P : ℕ → Places) (rules n
     -- All that is due stands in the index.
     pub complete : (e : Entry) → DueHere e → In e Whole
     unfolding IsPlace
-    complete e (inl d) = rw (whole-short (d .few), d .is) (List·Memᴰ·head refl)
-    complete e (inr d) = rw (whole-long (d .enough)) (in-index T P n rules e known (d .place) (d .broken)) where
+    complete e (inl d) = rw (full-short short T P rules n (d .few), d .is) (List·Memᴰ·head refl)
+    complete e (inr d) = rw (full-long short T P rules n (d .enough)) (in-index T P n rules e known (d .place) (d .broken)) where
       known : e .rule .0 < rules
       known = elim (decLt (e .rule .0) rules) [ yes h ↦ h | no h ↦ absurd (subst (λ (p : Places). IsPlace p n (e .spot)) (no-more (e .rule .0) (omega arith)) (d .place)) ]
 

@@ -30,7 +30,7 @@ gather f (suc n) = gather f n ++ f n
 -- T r s: rule r is broken at s
 module _ (T : ℕ → Spot → Bool) where
   -- what rule r owes at s
-  abbrev pub asked : ℕ → Spot → List Entry
+  unfoldable pub asked : ℕ → Spot → List Entry
   asked r s = one (T r s) (entry r s)
 
   -- at k certificates from `from` on
@@ -42,8 +42,8 @@ module _ (T : ℕ → Spot → Bool) where
   neighbours r = gather (λ (i : ℕ). asked r (pair i (i + 1)))
 
   -- at the pairs of i and each j below k
-  abbrev pub row : ℕ → ℕ → ℕ → List Entry
-  row r i = gather (λ (j : ℕ). asked r (pair i j))
+  unfoldable pub row : ℕ → ℕ → ℕ → List Entry
+  row r i k = gather (λ (j : ℕ). asked r (pair i j)) k
 
   -- at the pairs of k certificates from `from` on, each with all below it
   abbrev pub pairs : ℕ → ℕ → ℕ → List Entry

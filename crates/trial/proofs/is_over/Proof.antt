@@ -1,0 +1,17 @@
+use Rattle.trial.specs.Rules.{over}
+use borrow.Author.Needs.{needs}
+use Rattle.trial.proofs.is_over.Statement.{statement}
+use Rattle.trial.proofs.is_over.Tie as tie
+
+word-requires : tie.Need-word-requires
+word-requires c κs = search needs
+
+word-of-requires : tie.Need-word-of-requires
+word-of-requires c κs = search needs
+
+returns : tie.Need-returns
+unfolding over
+returns c = cc
+
+pub is-over-spec : {M : Type 1} → statement M
+is-over-spec = tie.close (tie.spec word-requires word-of-requires returns)

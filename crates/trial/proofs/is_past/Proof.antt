@@ -1,0 +1,14 @@
+use Rattle.trial.specs.Rules.{past}
+use borrow.Author.Needs.{needs}
+use Rattle.trial.proofs.is_past.Statement.{statement}
+use Rattle.trial.proofs.is_past.Tie as tie
+
+word-of-requires : tie.Need-word-of-requires
+word-of-requires c κs = search needs
+
+returns : tie.Need-returns
+unfolding past
+returns c = cc
+
+pub is-past-spec : {M : Type 1} → statement M
+is-past-spec = tie.close (tie.spec word-of-requires returns)
