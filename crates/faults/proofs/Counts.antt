@@ -1,10 +1,10 @@
 -- The laws of counting the entries of an index. Theorems.antt says what they add up to. Assumes nothing.
-use Prim.Native.Nat.{ℕ, zero, suc, _+_, _-_, _*_, _/_, _≤_, _<_}
+use Prim.Native.Nat.{ℕ, zero, suc, _+_, _-_, _*_, _/_, _≤_}
 use native.Mathlib.Omega.{arith}
 use native.Mathlib.Decide.{decLt}
 use native.Mathlib.Nat.{add-zero, add-suc, suc-mul, mul-suc, add-mul, mul-div-cancel-left}
-use mathlib.Core.Path.{_≡_, refl, sym, ap, _∙_}
-use mathlib.Core.List.{List, [], _∷_, _++_}
+use mathlib.Core.Path.{_≡_, refl}
+use mathlib.Core.List.{List}
 use mathlib.Core.Bool.{Bool, true, false}
 use lib.ListN.{length, length-append}
 use Rattle.faults.specs.Report.{one, certificate, pair}
@@ -41,6 +41,10 @@ triangle-up : (m n : ℕ) → m ≤ n → triangle m ≤ triangle n
 unfolding sum triangle
 triangle-up m zero h = let q : m ≡ 0 = omega arith in rw q (omega arith)
 triangle-up m (suc n) h = elim (decLt m (suc n)) [ yes l ↦ omega (arith, triangle-up m n (omega arith)) | no l ↦ let q : m ≡ suc n = omega arith in rw q (omega arith) ]
+
+-- more certificates have no fewer pairs
+pub pairs-up : (m n : ℕ) → m ≤ n → m * (m - 1) / 2 ≤ n * (n - 1) / 2
+pairs-up m n h = rw (triangle-is m, triangle-is n) (triangle-up m n h)
 
 -- ---- lengths
 

@@ -1,5 +1,5 @@
 -- The laws of writing entries into lent words, and of a loop of writers. They hold of every list of entries and every family of them. Assumes nothing.
-use Prim.Native.Nat.{ℕ, zero, suc, min, _+_, _-_, _*_, _/_, _≤_, _<_}
+use Prim.Native.Nat.{ℕ, zero, suc, _+_, _-_, _*_, _≤_, _<_}
 use native.Mathlib.Omega.{arith}
 use native.Mathlib.Numerals.{add-one}
 use mathlib.Core.Path.{_≡_, refl, sym, ap, _∙_}
@@ -15,7 +15,7 @@ use Rattle.faults.specs.Places.{gather, asked, row, shortEntry, index, f
 use Rattle.faults.specs.declared.Spot.{Spot}
 use Rattle.faults.specs.declared.Entry.{Entry}
 use Rattle.faults.specs.declared.Places.{Places}
-use Rattle.faults.specs.declared.First.the-variants.{Clear, Broken}
+use Rattle.faults.specs.declared.First.the-variants.{Broken}
 use Rattle.faults.specs.declared.Tally.{Tally}
 
 -- ---- one buffer

@@ -2,15 +2,15 @@
 use Prim.Native.Nat.{ℕ, zero, suc, _+_, _-_, _*_, _/_, _≤_, _<_}
 use native.Mathlib.Omega.{arith}
 use native.Mathlib.Decide.{decLt}
-use native.Mathlib.Nat.{mul-le-mul-right, one-mul}
+use native.Mathlib.Nat.{mul-le-mul-left, mul-le-mul-right}
 use mathlib.Core.Path.{_≡_, refl, sym, ap, subst, _∙_}
 use mathlib.Core.Logic.{_⊎_, inl, inr, ⊎-elim, _↔_}
 use mathlib.Core.List.{List, [], _∷_, List·Memᴰ·head, List·Memᴰ·tail, List·Memᴰ·not-nil, List·Memᴰ·cases-cons, List·Memᴰ·eq-of-singleton}
-use mathlib.Core.Bool.{Bool, true}
+use mathlib.Core.Bool.{Bool}
 use lib.ListN.{length, getD, take, drop}
 use Rattle.faults.specs.Report.{wordsOf, write, fitting, firstOf, mostCount, Wrote}
-use Rattle.faults.specs.Places.{IsPlace, shortEntry, index, fullIndex}
-use Rattle.faults.specs.Order.{In, Less, Ascending, DueShort, DueBroken, Due, NoneFrom}
+use Rattle.faults.specs.Places.{IsPlace, fullIndex}
+use Rattle.faults.specs.Order.{In, Less, Ascending, Due, NoneFrom}
 use Rattle.faults.specs.Count.{sum, placesCount, singleRules, pairRules}
 use Rattle.faults.specs.declared.Spot.{Spot}
 use Rattle.faults.specs.declared.Entry.{Entry}
@@ -18,7 +18,7 @@ use Rattle.faults.specs.declared.First.{First}
 use Rattle.faults.specs.declared.First.the-variants.{Clear, Broken}
 use Rattle.faults.specs.declared.Tally.{Tally}
 use Rattle.faults.specs.declared.Places.{Places}
-use Rattle.faults.proofs.Counts.{index-length, table-most}
+use Rattle.faults.proofs.Counts.{pairs-up, index-length, table-most}
 use Rattle.faults.proofs.Index.{index-in, in-index, index-ascends, less-asym, only-one}
 use Rattle.faults.proofs.Laws.{length-write, write-past, write-entry, full-short, full-long}
 
@@ -120,6 +120,16 @@ module _ (short : ℕ) (T : ℕ → Spot → Bool) (P : ℕ → Places) (rules n
       elim (decLt n 2) [
         | yes h ↦ omega (arith, short-length h)
         | no h ↦ omega (arith, places-bound (omega arith), table-most P n rules l)
+      ]
+
+  -- Of at most `most` certificates there are at most as many entries as that is of `most`.
+  pub bound-most : (k most : ℕ) → 1 ≤ k → 1 ≤ most → n ≤ most → singleRules P rules ≤ k → pairRules P rules ≤ 1 → length Whole ≤ k * most + most * (most - 1) / 2
+  bound-most k most o l u s q =
+      let a : k * n ≤ k * most = mul-le-mul-left k u in
+      let d : 1 * most ≤ k * most = mul-le-mul-right most o in
+      elim (decLt n 1) [
+        | yes h ↦ omega (arith, short-length (omega arith))
+        | no h ↦ omega (arith, bound k o (omega arith) s q, pairs-up n most u)
       ]
 
   -- ---- where the table has no rule from `rules` on

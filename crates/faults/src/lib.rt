@@ -2,7 +2,7 @@
 ghost use mathlib.Core.Path.{_≡_};
 ghost use mathlib.Core.List.{[], _∷_};
 ghost use Prim.Native.Nat.{_+_, _-_};
-ghost use Rattle.faults.specs.Report.{Wrote, one, noneYet, counted, joined as joinedOf, earlier as earlierOf, firstWord, secondWord};
+ghost use Rattle.faults.specs.Report.{Wrote, one, counted, joined as joinedOf, earlier as earlierOf, firstWord, secondWord};
 ghost use Rattle.faults.specs.Places.{shortEntry};
 use table::CertPos;
 use table::RuleNo;

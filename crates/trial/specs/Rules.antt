@@ -5,7 +5,6 @@ use mathlib.Core.Bool.{Bool, false, not, _&&_}
 use lib.Dec.{leb, ltb, eqb}
 use lib.ListN.{length}
 use Rattle.table.specs.Table.{word}
-use Rattle.faults.specs.Report.{certificate, pair}
 use Rattle.faults.specs.Places.{when, fullIndex}
 use Rattle.faults.specs.declared.Spot.{Spot}
 use Rattle.faults.specs.declared.Spot.the-variants.{Nothing, Certificate, Pair}

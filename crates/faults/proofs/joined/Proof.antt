@@ -1,4 +1,3 @@
-use mathlib.Core.Path.{refl}
 use borrow.Author.Needs.{needs}
 use Rattle.faults.proofs.joined.Statement.{statement}
 use Rattle.faults.proofs.joined.Tie as tie
