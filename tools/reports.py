@@ -13,8 +13,8 @@ CRATES = {
         "uses": "Rattle.trial.specs.Rules",
         "arms": {
             "places_of": ("placesOf", 8 * [None]),
-            "breaks_at": ("brokenAt", ["is_over", "is_zero", "is_past", "is_zero", "is_over"]),
-            "breaks_between": ("brokenBetween", ["are_different", "are_equal", "are_past"]),
+            "breaks_at": ("brokenAt", ["is_over", "is_past", "is_past", "is_over", "is_over"]),
+            "breaks_between": ("brokenBetween", ["are_equal", "are_equal", "are_past"]),
         },
     },
 }

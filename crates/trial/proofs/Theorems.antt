@@ -16,7 +16,7 @@ use Rattle.faults.specs.declared.Tally.{Tally}
 use Rattle.faults.proofs.Laws.{other}
 use Rattle.faults.proofs.Standing.{nowhere-entries, leaf-entries, root-entries, ends-entries, each-entries, neighbours-entries, pairs-entries}
 use Rattle.faults.proofs.Theorems.{exactly, ascends, only, bound, bound-most, total-exact}
-use Rattle.trial.specs.Rules.{over, zero, different, equal, bothPast, brokenAt, brokenBetween, broken, placesOf, rules, short, reportOf}
+use Rattle.trial.specs.Rules.{over, past, equal, bothPast, brokenAt, brokenBetween, broken, placesOf, rules, short, reportOf}
 
 -- The table has no rule from 21 on, so the loop to 20 misses none.
 pub no-more : NoneFrom placesOf rules
@@ -82,15 +82,15 @@ module _ (w b pw pb : List ℕ) (n : ℕ) where
     unfolding placesOf when
     of-3 = nowhere-entries short (broken w b pw pb) placesOf rules n no-more enough 3 refl s
 
-    pub of-5 : Stands 5 ↔ ((s ≡ certificate 0) × (zero w 0 ≡ true))
+    pub of-5 : Stands 5 ↔ ((s ≡ certificate 0) × (past w b 0 ≡ true))
     unfolding placesOf when broken brokenAt
     of-5 = leaf-entries short (broken w b pw pb) placesOf rules n no-more enough 5 refl s
 
-    pub of-10 : Stands 10 ↔ ((i : ℕ) × (1 ≤ i) × (i + 1 < n) × (s ≡ certificate i) × (zero w i ≡ true))
+    pub of-10 : Stands 10 ↔ ((i : ℕ) × (1 ≤ i) × (i + 1 < n) × (s ≡ certificate i) × (over w pw i ≡ true))
     unfolding placesOf when broken brokenAt
     of-10 = each-entries short (broken w b pw pb) placesOf rules n no-more enough 10 _ _ refl s
 
-    pub of-13 : Stands 13 ↔ ((i : ℕ) × (i + 1 < n) × (s ≡ pair i (i + 1)) × (different w i (i + 1) ≡ true))
+    pub of-13 : Stands 13 ↔ ((i : ℕ) × (i + 1 < n) × (s ≡ pair i (i + 1)) × (equal w i (i + 1) ≡ true))
     unfolding placesOf when broken brokenBetween
     of-13 = neighbours-entries short (broken w b pw pb) placesOf rules n no-more enough 13 refl s
 

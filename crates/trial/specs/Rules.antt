@@ -1,7 +1,7 @@
 -- Made-up rules over the words and bytes of a chain and of a policy, and the tables of them. Certificate i is word i. Assumes nothing.
 use Prim.Native.Nat.{ℕ}
 use mathlib.Core.List.{List}
-use mathlib.Core.Bool.{Bool, false, not, _&&_}
+use mathlib.Core.Bool.{Bool, false, _&&_}
 use lib.Dec.{leb, ltb, eqb}
 use lib.ListN.{length}
 use Rattle.table.specs.Table.{word}
@@ -18,17 +18,9 @@ use Rattle.faults.specs.declared.Places.the-variants.{Nowhere, Leaf, Root, Leaf
 unfoldable pub over : List ℕ → List ℕ → ℕ → Bool
 over w pw i = ltb (word pw 0) (word w i)
 
--- a word of 0
-unfoldable pub zero : List ℕ → ℕ → Bool
-zero w i = eqb (word w i) 0
-
 -- a word that is no place in the bytes
 unfoldable pub past : List ℕ → List ℕ → ℕ → Bool
 past w b i = leb (length b) (word w i)
-
--- two words that differ
-unfoldable pub different : List ℕ → ℕ → ℕ → Bool
-different w i j = not (eqb (word w i) (word w j))
 
 -- two equal words
 unfoldable pub equal : List ℕ → ℕ → ℕ → Bool
@@ -44,16 +36,16 @@ bothPast w b i j = past w b i && past w b j
 unfoldable pub brokenAt : List ℕ → List ℕ → List ℕ → ℕ → ℕ → Bool
 brokenAt w b pw r i =
     when r 2 (over w pw i) (
-    when r 5 (zero w i) (
+    when r 5 (past w b i) (
     when r 7 (past w b i) (
-    when r 10 (zero w i) (
+    when r 10 (over w pw i) (
     when r 20 (over w pw i) (
     false)))))
 
 -- rule r is broken between i and j
 unfoldable pub brokenBetween : List ℕ → List ℕ → ℕ → ℕ → ℕ → Bool
 brokenBetween w pb r i j =
-    when r 13 (different w i j) (
+    when r 13 (equal w i j) (
     when r 14 (equal w i j) (
     when r 17 (bothPast w pb i j) (
     false)))

@@ -1,10 +1,9 @@
 // A judge of made-up rules, which shows that the report of crate faults can be written: one entry, places of each kind, a rule, all rules.
 ghost use mathlib.Core.Path.{_≡_};
 ghost use Prim.Native.Nat.{_-_};
-ghost use Rattle.table.specs.Table.{word as wordOf};
 ghost use Rattle.faults.specs.Report.{Wrote};
 ghost use Rattle.faults.specs.Places.{asked, each, neighbours, row, pairs, entriesAt, index};
-ghost use Rattle.trial.specs.Rules.{over, zero, past, different, equal, bothPast, brokenAt, brokenBetween, broken, placesOf, rules, reportOf};
+ghost use Rattle.trial.specs.Rules.{over, past, equal, bothPast, brokenAt, brokenBetween, broken, placesOf, rules, reportOf};
 use faults::Entry;
 use faults::NONE_YET;
 use faults::Places;
@@ -19,49 +18,32 @@ const SHORT: RuleNo = RuleNo(1);
 // The numbers of all rules are below it.
 const RULES: u32 = 21;
 
-// The word of a certificate.
-fn word_of(i: CertPos, words: &[u64]) -> u64
-    ensures { λ r. ⌜ r ≡ wordOf (now (words .entry)) (i .0) ⌝ }
-{
-    table::word(words, i.0 as usize)
-}
-
 // ---- the rules
 
+// The word of a certificate is over the policy's first.
 fn is_over(i: CertPos, words: &[u64], pwords: &[u64]) -> bool
     ensures { λ r. ⌜ r ≡ over (now (words .entry)) (now (pwords .entry)) (i .0) ⌝ }
 {
-    table::word(pwords, 0) < word_of(i, words)
+    table::word(pwords, 0) < table::word(words, i.0 as usize)
 }
 
-fn is_zero(i: CertPos, words: &[u64]) -> bool
-    ensures { λ r. ⌜ r ≡ zero (now (words .entry)) (i .0) ⌝ }
-{
-    word_of(i, words) == 0
-}
-
+// The word of a certificate is no place in the bytes.
 fn is_past(i: CertPos, words: &[u64], bytes: &[u8]) -> bool
     ensures { λ r. ⌜ r ≡ past (now (words .entry)) (now (bytes .entry)) (i .0) ⌝ }
 {
-    bytes.len() as u64 <= word_of(i, words)
-}
-
-fn are_different(i: CertPos, j: CertPos, words: &[u64]) -> bool
-    ensures { λ r. ⌜ r ≡ different (now (words .entry)) (i .0) (j .0) ⌝ }
-{
-    word_of(i, words) != word_of(j, words)
+    bytes.len() as u64 <= table::word(words, i.0 as usize)
 }
 
 fn are_equal(i: CertPos, j: CertPos, words: &[u64]) -> bool
     ensures { λ r. ⌜ r ≡ equal (now (words .entry)) (i .0) (j .0) ⌝ }
 {
-    word_of(i, words) == word_of(j, words)
+    table::word(words, i.0 as usize) == table::word(words, j.0 as usize)
 }
 
-fn are_past(i: CertPos, j: CertPos, words: &[u64], pbytes: &[u8]) -> bool
-    ensures { λ r. ⌜ r ≡ bothPast (now (words .entry)) (now (pbytes .entry)) (i .0) (j .0) ⌝ }
+fn are_past(i: CertPos, j: CertPos, words: &[u64], bytes: &[u8]) -> bool
+    ensures { λ r. ⌜ r ≡ bothPast (now (words .entry)) (now (bytes .entry)) (i .0) (j .0) ⌝ }
 {
-    is_past(i, words, pbytes) & is_past(j, words, pbytes)
+    is_past(i, words, bytes) & is_past(j, words, bytes)
 }
 
 // ---- the tables
@@ -73,9 +55,9 @@ fn breaks_at(rule: RuleNo, i: CertPos, words: &[u64], bytes: &[u8], pwords: &[u6
     let n = rule.0;
     match n {
         2 => is_over(i, words, pwords),
-        5 => is_zero(i, words),
+        5 => is_past(i, words, bytes),
         7 => is_past(i, words, bytes),
-        10 => is_zero(i, words),
+        10 => is_over(i, words, pwords),
         20 => is_over(i, words, pwords),
         _ => false,
     }
@@ -87,7 +69,7 @@ fn breaks_between(rule: RuleNo, i: CertPos, j: CertPos, words: &[u64], pbytes: &
 {
     let n = rule.0;
     match n {
-        13 => are_different(i, j, words),
+        13 => are_equal(i, j, words),
         14 => are_equal(i, j, words),
         17 => are_past(i, j, words, pbytes),
         _ => false,

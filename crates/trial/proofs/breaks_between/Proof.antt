@@ -7,22 +7,22 @@ use Rattle.trial.specs.Rules.{brokenBetween}
 use Rattle.trial.proofs.breaks_between.Statement.{statement}
 use Rattle.trial.proofs.breaks_between.Tie as tie
 
-are-different-requires : tie.Need-are-different-requires
-are-different-requires c κs = search needs
-
 are-equal-requires : tie.Need-are-equal-requires
 are-equal-requires c κs = search needs
+
+are-equal-requires-2 : tie.Need-are-equal-requires-2
+are-equal-requires-2 c κs = search needs
 
 are-past-requires : tie.Need-are-past-requires
 are-past-requires c κs = search needs
 
 returns : tie.Need-returns
 unfolding brokenBetween when
-returns c = rw (c .before .match .keys1) (c .are-different .ensures)
+returns c = rw (c .before .match .keys1) (c .are-equal .ensures)
 
 returns-2 : tie.Need-returns-2
 unfolding brokenBetween when
-returns-2 c = rw (c .before .match .keys2) (c .are-equal .ensures)
+returns-2 c = rw (c .before .match .keys2) (c .are-equal2 .ensures)
 
 returns-3 : tie.Need-returns-3
 unfolding brokenBetween when
@@ -41,8 +41,8 @@ pub breaks-between-spec : {M : Type 1} → statement M
 breaks-between-spec =
     tie.close
     (tie.spec
-    are-different-requires
     are-equal-requires
+    are-equal-requires-2
     are-past-requires
     returns
     returns-2

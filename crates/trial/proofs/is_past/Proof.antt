@@ -3,12 +3,15 @@ use borrow.Author.Needs.{needs}
 use Rattle.trial.proofs.is_past.Statement.{statement}
 use Rattle.trial.proofs.is_past.Tie as tie
 
-word-of-requires : tie.Need-word-of-requires
-word-of-requires c κs = search needs
+cast-word : tie.Need-cast-word
+cast-word c = search needs
+
+word-requires : tie.Need-word-requires
+word-requires c κs = search needs
 
 returns : tie.Need-returns
 unfolding past
 returns c = cc
 
 pub is-past-spec : {M : Type 1} → statement M
-is-past-spec = tie.close (tie.spec word-of-requires returns)
+is-past-spec = tie.close (tie.spec cast-word word-requires returns)
