@@ -130,7 +130,7 @@ def loop(crate, row, function, kind):
         "borrow.Author.Needs.{needs}",
         "borrow.Author.Count.{falls}",
         "Rattle.faults.specs.Report.{%s}" % ", ".join(named(["certificate", "pair"], turn)) if named(["certificate", "pair"], turn) else None,
-        "Rattle.faults.specs.Places.{%s}" % ", ".join(named(["asked", "row", "entriesAt", "index"], text)),
+        "Rattle.faults.specs.Index.{%s}" % ", ".join(named(["asked", "row", "entriesAt", "index"], text)),
         "Rattle.faults.proofs.Laws.{%s}" % ", ".join(["SoFar", "so-far-none", "so-far-more"] + ([kind["law"]] if kind["from"] else []) + ["so-far-done"]),
         row["uses"] + ".{%s}" % ", ".join(named([row["test"], row["places"], "rules"], text)),
     ]
@@ -203,7 +203,7 @@ def rule(crate, row):
         body += [f"{need} : tie.Need-{need}", f"{need} c{' κs' if 'requires' in need else ''} = search needs", ""]
     for need, answer in returns:
         body += [f"{need} : tie.Need-{need}"] + (["unfolding entriesAt"] if need.startswith("returns") else []) + [f"{need} c = {answer}", ""]
-    uses = ["borrow.Author.Needs.{needs}", "Rattle.faults.specs.Places.{entriesAt}", "Rattle.faults.proofs.Laws.{wrote-none}"]
+    uses = ["borrow.Author.Needs.{needs}", "Rattle.faults.specs.Index.{entriesAt}", "Rattle.faults.proofs.Laws.{wrote-none}"]
     return proof(crate, "write_rule", "Each case of the places has its writer.", uses, body, needs + [need for need, _ in returns])
 
 

@@ -7,7 +7,8 @@ use mathlib.Core.Logic.{_⊎_, inl, inr, ⊎-elim}
 use mathlib.Core.List.{List, [], _∷_, _++_, List·Memᴰ·head, List·Memᴰ·tail, List·Memᴰ·not-nil, List·Memᴰ·cases-cons, List·Memᴰ·append-cases, List·Memᴰ·eq-of-singleton, Memᴰ·append-left, Memᴰ·append-right}
 use mathlib.Core.Bool.{Bool, true, false}
 use Rattle.faults.specs.Report.{entry, one, certificate, pair, firstWord, secondWord}
-use Rattle.faults.specs.Places.{IsPlace, gather, asked, row, entriesAt, index}
+use Rattle.faults.specs.Index.{gather, asked, row, entriesAt, index}
+use Rattle.faults.specs.Places.{IsPlace}
 use Rattle.faults.specs.Order.{In, Less, Ascending}
 use Rattle.faults.specs.declared.Spot.{Spot}
 use Rattle.faults.specs.declared.Entry.{Entry}
@@ -103,15 +104,15 @@ module _ (T : ℕ → Spot → Bool) where
   asc-rule Leaf r n = asc-asked r (certificate 0)
   asc-rule Root r n = asc-asked r (certificate (n - 1))
   asc-rule LeafAndRoot r n = asc-asked r (pair 0 (n - 1))
-  asc-rule (Each f b) r n = asc-spots r (λ k. certificate (f .0 + k)) (λ k m l. inl (omega arith)) (n - b - f .0)
-  asc-rule Neighbours r n = asc-spots r (λ k. pair k (k + 1)) (λ k m l. inl l) (n - 1)
+  asc-rule (Each f b) r n = asc-spots r (λ k. certificate (f .0 + k)) (λ k m l. inl (omega arith)) _
+  asc-rule Neighbours r n = asc-spots r (λ k. pair k (k + 1)) (λ k m l. inl l) _
   asc-rule (Pairs f b) r n =
       asc-gather (λ (k : ℕ). row T r (f .0 + k) (f .0 + k)) (λ k. asc-spots r (λ j. pair (f .0 + k) j) (λ i m l. inr (refl, l)) (f .0 + k))
       (λ k m l x y p q.
       let u = row-in r (f .0 + k) (f .0 + k) p in
       let v = row-in r (f .0 + m) (f .0 + m) q in
       rw (u .3, v .3) (inr (refl, inl (omega arith))))
-      (n - b - f .0)
+      _
 
   -- all that rule r owes is of rule r, at one of its places, and broken there
   rule-in : (p : Places) (r n : ℕ) {e : Entry} → In e (entriesAt T p r n) → (e .rule .0 ≡ r) × IsPlace p n (e .spot) × (T r (e .spot) ≡ true)
@@ -121,15 +122,15 @@ module _ (T : ℕ → Spot → Bool) where
   rule-in Root r n m = let o = asked-in r (certificate (n - 1)) m in rw (o .1) (refl, refl, o .0)
   rule-in LeafAndRoot r n m = let o = asked-in r (pair 0 (n - 1)) m in rw (o .1) (refl, refl, o .0)
   rule-in (Each f b) r n m =
-      let g = gather-in (λ (k : ℕ). asked T r (certificate (f .0 + k))) (n - b - f .0) m in
+      let g = gather-in (λ (k : ℕ). asked T r (certificate (f .0 + k))) _ m in
       let o = asked-in r (certificate (f .0 + g .0)) (g .2) in
       rw (o .1) (refl, (f .0 + g .0, omega arith, omega (arith, g .1), refl), o .0)
   rule-in Neighbours r n m =
-      let g = gather-in (λ (k : ℕ). asked T r (pair k (k + 1))) (n - 1) m in
+      let g = gather-in (λ (k : ℕ). asked T r (pair k (k + 1))) _ m in
       let o = asked-in r (pair (g .0) (g .0 + 1)) (g .2) in
       rw (o .1) (refl, (g .0, omega (arith, g .1), refl), o .0)
   rule-in (Pairs f b) r n m =
-      let g = gather-in (λ (k : ℕ). row T r (f .0 + k) (f .0 + k)) (n - b - f .0) m in
+      let g = gather-in (λ (k : ℕ). row T r (f .0 + k) (f .0 + k)) _ m in
       let o = row-in r (f .0 + g .0) (f .0 + g .0) (g .2) in
       rw (o .3) (refl, (f .0 + g .0, o .0, omega arith, omega (arith, g .1), o .1, refl), o .2)
 
@@ -142,32 +143,32 @@ module _ (T : ℕ → Spot → Bool) where
   in-rule LeafAndRoot r n s h t = rw h (in-asked r _ (rw h at t))
   in-rule (Each f b) r n s (i, l, u, e) t =
       let q : f .0 + (i - f .0) ≡ i = omega arith in
-      in-gather (λ (k : ℕ). asked T r (certificate (f .0 + k))) (n - b - f .0) (i - f .0) (omega arith) (rw (q, e) (in-asked r _ (rw e at t)))
+      in-gather (λ (k : ℕ). asked T r (certificate (f .0 + k))) _ (i - f .0) (omega arith) (rw (q, e) (in-asked r _ (rw e at t)))
   in-rule Neighbours r n s (i, u, e) t =
-      in-gather (λ (k : ℕ). asked T r (pair k (k + 1))) (n - 1) i (omega arith) (rw e (in-asked r _ (rw e at t)))
+      in-gather (λ (k : ℕ). asked T r (pair k (k + 1))) _ i (omega arith) (rw e (in-asked r _ (rw e at t)))
   in-rule (Pairs f b) r n s (i, j, l, u, d, e) t =
       let q : f .0 + (i - f .0) ≡ i = omega arith in
-      in-gather (λ (k : ℕ). row T r (f .0 + k) (f .0 + k)) (n - b - f .0) (i - f .0) (omega arith)
+      in-gather (λ (k : ℕ). row T r (f .0 + k) (f .0 + k)) _ (i - f .0) (omega arith)
       (rw q (in-gather (λ (j : ℕ). asked T r (pair i j)) i j d (rw e (in-asked r _ (rw e at t)))))
 
   module _ (P : ℕ → Places) (n rules : ℕ) where
     pub index-in : (e : Entry) → In e (index T P n rules) → (e .rule .0 < rules) × IsPlace (P (e .rule .0)) n (e .spot) × (T (e .rule .0) (e .spot) ≡ true)
     unfolding index
     index-in e m =
-        let g = gather-in (λ (r : ℕ). entriesAt T (P r) r n) rules m in
+        let g = gather-in (λ (r : ℕ). entriesAt T (P r) r n) _ m in
         let o = rule-in (P (g .0)) (g .0) n (g .2) in
         (omega (arith, o .0, g .1), rw (o .0) (o .1), rw (o .0) (o .2))
 
     pub in-index : (e : Entry) → e .rule .0 < rules → IsPlace (P (e .rule .0)) n (e .spot) → T (e .rule .0) (e .spot) ≡ true → In e (index T P n rules)
     unfolding index
     in-index e l p b =
-        in-gather (λ (r : ℕ). entriesAt T (P r) r n) rules (e .rule .0) l (in-rule (P (e .rule .0)) (e .rule .0) n (e .spot) p b)
+        in-gather (λ (r : ℕ). entriesAt T (P r) r n) _ (e .rule .0) (omega arith) (in-rule (P (e .rule .0)) (e .rule .0) n (e .spot) p b)
 
     pub index-ascends : Ascending (index T P n rules)
     unfolding index
     index-ascends =
         asc-gather (λ (r : ℕ). entriesAt T (P r) r n) (λ r. asc-rule (P r) r n)
-        (λ k m l x y p q. inl (omega (arith, rule-in (P k) k n p .0, rule-in (P m) m n q .0))) rules
+        (λ k m l x y p q. inl (omega (arith, rule-in (P k) k n p .0, rule-in (P m) m n q .0))) _
 
 -- ---- there is one such list
 

@@ -11,7 +11,8 @@ use borrow.Author.Tests.{ne-eqb, lt-ltb, le-ltb}
 use borrow.Rule.Slice.PartMut.{putMid, post-is}
 use Rattle.laws.proofs.Parts.{rest}
 use Rattle.faults.specs.Report.{certificate, one, write, wordsOf, fitting, firstOf, mostCount, Wrote, noneYet, earlier, joined}
-use Rattle.faults.specs.Places.{gather, asked, row, shortEntry, index, fullIndex, when}
+use Rattle.faults.specs.Index.{gather, asked, row, index, fullIndex}
+use Rattle.faults.specs.Places.{shortEntry, when}
 use Rattle.faults.specs.declared.Spot.{Spot}
 use Rattle.faults.specs.declared.Entry.{Entry}
 use Rattle.faults.specs.declared.Places.{Places}
@@ -27,7 +28,7 @@ length-write [] b = refl
 length-write (e ∷ es) [] = refl
 length-write (e ∷ es) (x ∷ []) = refl
 length-write (e ∷ es) (x ∷ y ∷ []) = refl
-length-write (e ∷ es) (x ∷ y ∷ z ∷ b) = ap (λ (n : ℕ). suc (suc (suc n))) (length-write es b)
+length-write (e ∷ es) (x ∷ y ∷ z ∷ b) = omega (arith, length-write es b)
 
 -- where no whole entry fits, nothing is written
 pub write-short : (es : List Entry) (b : List ℕ) → length b < 3 → write es b ≡ b
@@ -37,18 +38,6 @@ write-short (e ∷ es) [] h = refl
 write-short (e ∷ es) (x ∷ []) h = refl
 write-short (e ∷ es) (x ∷ y ∷ []) h = refl
 write-short (e ∷ es) (x ∷ y ∷ z ∷ b) h = absurd (omega arith)
-
--- past the entries that fit, each word is as it was
-pub write-past : (es : List Entry) (b : List ℕ) (at : ℕ) → at ≡ 3 * fitting es b → drop at (write es b) ≡ drop at b
-unfolding write
-write-past [] b at h = refl
-write-past (e ∷ es) [] at h = refl
-write-past (e ∷ es) (x ∷ []) at h = refl
-write-past (e ∷ es) (x ∷ y ∷ []) at h = refl
-write-past (e ∷ es) (x ∷ y ∷ z ∷ b) at h =
-    let n : ℕ = 3 * fitting es b in
-    let k : at ≡ suc (suc (suc n)) = omega arith in
-    rw k (write-past es b n refl)
 
 -- entry k, where it fits, is the three words from 3 * k on
 pub write-entry : (es : List Entry) (b : List ℕ) (k : ℕ) (d : Entry) → k < fitting es b → take 3 (drop (3 * k) (write es b)) ≡ wordsOf (getD es k d)
@@ -61,6 +50,18 @@ write-entry (e ∷ es) (x ∷ y ∷ z ∷ b) zero d h = refl
 write-entry (e ∷ es) (x ∷ y ∷ z ∷ b) (suc k) d h =
     let n : 3 * suc k ≡ suc (suc (suc (3 * k))) = omega arith in
     rw n (write-entry es b k d (omega arith))
+
+-- past the entries that fit, each word is as it was
+pub write-past : (es : List Entry) (b : List ℕ) (at : ℕ) → at ≡ 3 * fitting es b → drop at (write es b) ≡ drop at b
+unfolding write
+write-past [] b at h = refl
+write-past (e ∷ es) [] at h = refl
+write-past (e ∷ es) (x ∷ []) at h = refl
+write-past (e ∷ es) (x ∷ y ∷ []) at h = refl
+write-past (e ∷ es) (x ∷ y ∷ z ∷ b) at h =
+    let n : ℕ = 3 * fitting es b in
+    let k : at ≡ suc (suc (suc n)) = omega arith in
+    rw k (write-past es b n refl)
 
 -- to write a and then b is to write b into what a left free
 pub write-append : (a b : List Entry) (l : List ℕ) (at : ℕ) → at ≡ 3 * fitting a l → take at (write a l) ++ write b (drop at (write a l)) ≡ write (a ++ b) l

@@ -6,7 +6,8 @@ use mathlib.Core.Logic.{inr, ⊎-elim, _↔_}
 use mathlib.Core.Bool.{Bool, true}
 use Rattle.table.specs.declared.CertPos.{CertPos}
 use Rattle.faults.specs.Report.{entry, certificate, pair}
-use Rattle.faults.specs.Places.{IsPlace, fullIndex}
+use Rattle.faults.specs.Index.{fullIndex}
+use Rattle.faults.specs.Places.{IsPlace}
 use Rattle.faults.specs.Order.{In, DueShort, DueBroken, NoneFrom}
 use Rattle.faults.specs.declared.Spot.{Spot}
 use Rattle.faults.specs.declared.Places.{Places}

@@ -9,8 +9,9 @@ use mathlib.Core.List.{List, [], _∷_, List·Memᴰ·head, List·Memᴰ·tail, 
 use mathlib.Core.Bool.{Bool}
 use lib.ListN.{length, getD, take, drop}
 use Rattle.faults.specs.Report.{wordsOf, write, fitting, firstOf, mostCount, Wrote}
-use Rattle.faults.specs.Places.{IsPlace, fullIndex}
-use Rattle.faults.specs.Order.{In, Less, Ascending, Due, NoneFrom}
+use Rattle.faults.specs.Index.{fullIndex}
+use Rattle.faults.specs.Places.{IsPlace}
+use Rattle.faults.specs.Order.{In, Less, Ascending, Due, NoneFrom, Reported}
 use Rattle.faults.specs.Count.{sum, placesCount, singleRules, pairRules}
 use Rattle.faults.specs.declared.Spot.{Spot}
 use Rattle.faults.specs.declared.Entry.{Entry}
@@ -18,9 +19,9 @@ use Rattle.faults.specs.declared.First.{First}
 use Rattle.faults.specs.declared.First.the-variants.{Clear, Broken}
 use Rattle.faults.specs.declared.Tally.{Tally}
 use Rattle.faults.specs.declared.Places.{Places}
-use Rattle.faults.proofs.Counts.{pairs-up, index-length, table-most}
 use Rattle.faults.proofs.Index.{index-in, in-index, index-ascends, less-asym, only-one}
 use Rattle.faults.proofs.Laws.{length-write, write-past, write-entry, full-short, full-long}
+use Rattle.faults.proofs.Lengths.{pairs-up, index-length, table-most}
 
 -- ---- writing
 
@@ -157,3 +158,20 @@ module _ (short : ℕ) (T : ℕ → Spot → Bool) (P : ℕ → Places) (rules n
     -- There is no first entry exactly if none is due.
     pub first-clear : (firstOf Whole ≡ Clear) ↔ ((e : Entry) → DueHere e → ⊥)
     first-clear = (λ h e d. no-head Whole h e (complete e d), λ h. empty-head Whole (λ e m. h e (sound e m)))
+
+    -- Whoever writes the index writes the whole report.
+    pub reported : {old new : List ℕ} {t : Tally} → Wrote Whole old new t → Reported short T P n old new t
+    reported w = record { entries = Whole; ascending = ascends; exactly = exactly; wrote = w }
+
+    -- The entries of a whole report are the index, so all that is said of the index is said of them.
+    pub reported-is : {old new : List ℕ} {t : Tally} (p : Reported short T P n old new t) → p .entries ≡ Whole
+    reported-is p = only (p .entries) (p .ascending) (p .exactly)
+
+-- Two whole reports of the same rules are equal, word for word, and so is what is handed back.
+pub one-report : (short : ℕ) (T : ℕ → Spot → Bool) (P : ℕ → Places) (n : ℕ) {old new new' : List ℕ} {t t' : Tally}
+    → Reported short T P n old new t → Reported short T P n old new' t' → (new ≡ new') × (t ≡ t')
+one-report short T P n p q =
+    let e : p .entries ≡ q .entries =
+    only-one (p .entries) (q .entries) (p .ascending) (q .ascending) (λ e m. q .exactly e .1 (p .exactly e .0 m)) (λ e m. p .exactly e .1 (q .exactly e .0 m))
+    in
+    one-outcome (rw e at (p .wrote)) (q .wrote)

@@ -1,13 +1,14 @@
 -- What is said of a list of entries: which are due, and in what order they stand. Assumes nothing.
 use Prim.Native.Nat.{ℕ, _≤_, _<_}
 use mathlib.Core.Path.{_≡_}
-use mathlib.Core.Logic.{_⊎_}
+use mathlib.Core.Logic.{_⊎_, _↔_}
 use mathlib.Core.List.{List, [], _∷_, List·Memᴰ}
 use mathlib.Core.Bool.{Bool, true}
-use Rattle.faults.specs.Report.{firstWord, secondWord}
+use Rattle.faults.specs.Report.{firstWord, secondWord, Wrote}
 use Rattle.faults.specs.Places.{IsPlace, shortEntry}
 use Rattle.faults.specs.declared.Spot.{Spot}
 use Rattle.faults.specs.declared.Entry.{Entry}
+use Rattle.faults.specs.declared.Tally.{Tally}
 use Rattle.faults.specs.declared.Places.{Places}
 use Rattle.faults.specs.declared.Places.the-variants.{Nowhere}
 
@@ -43,3 +44,10 @@ module _ (short : ℕ) (T : ℕ → Spot → Bool) (P : ℕ → Places) (n : ℕ
 -- the table has no rule from `rules` on
 abbrev pub NoneFrom : (ℕ → Places) → ℕ → Type 0
 NoneFrom P rules = (r : ℕ) → rules ≤ r → P r ≡ Nowhere
+
+-- what the writer of a whole report ensures: some list ascends and holds exactly what is due, and that list was written
+pub record Reported (short : ℕ) (T : ℕ → Spot → Bool) (P : ℕ → Places) (n : ℕ) (old new : List ℕ) (t : Tally) : Type 0 where
+  pub entries : List Entry
+  pub ascending : Ascending entries
+  pub exactly : (e : Entry) → In e entries ↔ Due short T P n e
+  pub wrote : Wrote entries old new t

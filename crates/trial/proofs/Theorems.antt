@@ -7,16 +7,17 @@ use mathlib.Core.List.{List}
 use mathlib.Core.Bool.{true}
 use lib.ListN.{length}
 use Rattle.faults.specs.Report.{entry, certificate, pair, Wrote}
+use Rattle.faults.specs.Index.{fullIndex}
 use Rattle.faults.specs.Places.{when}
-use Rattle.faults.specs.Order.{In, Ascending, Due, NoneFrom}
+use Rattle.faults.specs.Order.{In, NoneFrom, Reported}
 use Rattle.faults.specs.Count.{sum, isSingle, isPairs, singleRules, pairRules}
 use Rattle.faults.specs.declared.Spot.{Spot}
 use Rattle.faults.specs.declared.Entry.{Entry}
 use Rattle.faults.specs.declared.Tally.{Tally}
 use Rattle.faults.proofs.Laws.{other}
 use Rattle.faults.proofs.Standing.{nowhere-entries, leaf-entries, root-entries, ends-entries, each-entries, neighbours-entries, pairs-entries}
-use Rattle.faults.proofs.Theorems.{exactly, ascends, only, bound, bound-most, total-exact}
-use Rattle.trial.specs.Rules.{over, past, equal, bothPast, brokenAt, brokenBetween, broken, placesOf, rules, short, reportOf}
+use Rattle.faults.proofs.Theorems.{total-exact, bound, bound-most, reported, reported-is}
+use Rattle.trial.specs.Rules.{over, past, equal, bothPast, brokenAt, brokenBetween, broken, placesOf, rules, short}
 
 -- The table has no rule from 21 on, so the loop to 20 misses none.
 pub no-more : NoneFrom placesOf rules
@@ -42,37 +43,33 @@ unfolding pairRules sum isPairs placesOf when
 one-of-pairs = refl
 
 module _ (w b pw pb : List ℕ) (n : ℕ) where
-  -- e is due of these words and bytes
-  abbrev pub DueOf : Entry → Type 0
-  DueOf = Due short (broken w b pw pb) placesOf n
+  -- all entries
+  abbrev entries : List Entry
+  entries = fullIndex short (broken w b pw pb) placesOf rules n
 
-  -- An entry stands in the report exactly when it is due.
-  pub members : (e : Entry) → In e (reportOf w b pw pb n) ↔ DueOf e
-  members = exactly short (broken w b pw pb) placesOf rules n no-more
+  -- Whoever writes them meets the contract of `write_report`.
+  pub whole : {old new : List ℕ} {t : Tally} → Wrote entries old new t → Reported short (broken w b pw pb) placesOf n old new t
+  whole = reported short (broken w b pw pb) placesOf rules n no-more
 
-  -- The report ascends.
-  pub in-order : Ascending (reportOf w b pw pb n)
-  in-order = ascends short (broken w b pw pb) placesOf rules n
-
-  -- No other list ascends and holds exactly what is due.
-  pub alone : (l : List Entry) → Ascending l → ((e : Entry) → In e l ↔ DueOf e) → l ≡ reportOf w b pw pb n
-  alone = only short (broken w b pw pb) placesOf rules n no-more
-
-  -- It has at most 7n + n(n - 1)/2 entries.
-  pub few : 1 ≤ n → length (reportOf w b pw pb n) ≤ 7 * n + n * (n - 1) / 2
+  -- There are at most 7n + n(n - 1)/2.
+  pub few : 1 ≤ n → length entries ≤ 7 * n + n * (n - 1) / 2
   few h = bound short (broken w b pw pb) placesOf rules n 7 (omega arith) h (omega (arith, seven)) (omega (arith, one-of-pairs))
 
-  -- Of at most 16 certificates the total is how many there are.
-  pub exact-total : {old new : List ℕ} {t : Tally} → n ≤ 16 → Wrote (reportOf w b pw pb n) old new t → t .total ≡ length (reportOf w b pw pb n)
-  exact-total h t =
-      let l : length (reportOf w b pw pb n) ≤ 232 = bound-most short (broken w b pw pb) placesOf rules n 7 16 (omega arith) (omega arith) h (omega (arith, seven)) (omega (arith, one-of-pairs)) in
-      total-exact t (omega arith)
+  -- Of at most 16 certificates there are at most 232, and the total that is handed back is how many there are.
+  pub exact-total : {old new : List ℕ} {t : Tally} → n ≤ 16 → (p : Reported short (broken w b pw pb) placesOf n old new t) → (t .total ≡ length (p .entries)) × (t .total ≤ 232)
+  exact-total h p =
+      let l : length entries ≤ 232 =
+      bound-most short (broken w b pw pb) placesOf rules n 7 16 (omega arith) (omega arith) h (omega (arith, seven)) (omega (arith, one-of-pairs))
+      in
+      let m : length (p .entries) ≤ 232 = rw (reported-is short (broken w b pw pb) placesOf rules n no-more p) l in
+      let e = total-exact (p .wrote) (omega arith) in
+      (e, omega (arith, e))
 
   -- ---- rule by rule: where its entries stand, of two certificates or more, and that it has no others
   module _ (enough : 2 ≤ n) (s : Spot) where
     -- rule r has an entry at s
     abbrev Stands : ℕ → Type 0
-    Stands r = In (entry r s) (reportOf w b pw pb n)
+    Stands r = In (entry r s) entries
 
     pub of-2 : Stands 2 ↔ ((i : ℕ) × (0 ≤ i) × (i + 0 < n) × (s ≡ certificate i) × (over w pw i ≡ true))
     unfolding placesOf when broken brokenAt

@@ -5,10 +5,9 @@ use mathlib.Core.Bool.{Bool, false, _&&_}
 use lib.Dec.{leb, ltb, eqb}
 use lib.ListN.{length}
 use Rattle.table.specs.Table.{word}
-use Rattle.faults.specs.Places.{when, fullIndex}
+use Rattle.faults.specs.Places.{when}
 use Rattle.faults.specs.declared.Spot.{Spot}
 use Rattle.faults.specs.declared.Spot.the-variants.{Nothing, Certificate, Pair}
-use Rattle.faults.specs.declared.Entry.{Entry}
 use Rattle.faults.specs.declared.Places.{Places}
 use Rattle.faults.specs.declared.Places.the-variants.{Nowhere, Leaf, Root, LeafAndRoot, Each, Neighbours, Pairs}
 
@@ -76,7 +75,3 @@ rules = 21
 -- the rule that a chain is long enough
 abbrev pub short : ℕ
 short = 1
-
--- all entries of n certificates
-abbrev pub reportOf : List ℕ → List ℕ → List ℕ → List ℕ → ℕ → List Entry
-reportOf w b pw pb n = fullIndex short (broken w b pw pb) placesOf rules n

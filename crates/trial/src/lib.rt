@@ -2,8 +2,9 @@
 ghost use mathlib.Core.Path.{_≡_};
 ghost use Prim.Native.Nat.{_-_};
 ghost use Rattle.faults.specs.Report.{Wrote};
-ghost use Rattle.faults.specs.Places.{asked, each, neighbours, row, pairs, entriesAt, index};
-ghost use Rattle.trial.specs.Rules.{over, past, equal, bothPast, brokenAt, brokenBetween, broken, placesOf, rules, reportOf};
+ghost use Rattle.faults.specs.Order.{Reported};
+ghost use Rattle.faults.specs.Index.{asked, each, neighbours, row, pairs, entriesAt, index};
+ghost use Rattle.trial.specs.Rules.{over, past, equal, bothPast, brokenAt, brokenBetween, broken, placesOf, rules, short};
 use faults::Entry;
 use faults::NONE_YET;
 use faults::Places;
@@ -331,7 +332,7 @@ pub fn write_report(
     pbytes: &[u8],
     report: &mut [u32],
 ) -> Tally
-    ensures { λ t. ⌜ Wrote (reportOf (now (words .entry)) (now (bytes .entry)) (now (pwords .entry)) (now (pbytes .entry)) n) (now (report .entry)) (now (report .exit)) t ⌝ }
+    ensures { λ t. ⌜ Reported short (broken (now (words .entry)) (now (bytes .entry)) (now (pwords .entry)) (now (pbytes .entry))) placesOf n (now (report .entry)) (now (report .exit)) t ⌝ }
 {
     if n < 2 {
         return faults::put_short(SHORT, report);

@@ -7,7 +7,7 @@ use Rattle.faults.proofs.put_entry.Statement.{statement}
 use Rattle.faults.proofs.put_entry.Tie as tie
 
 returns : tie.Need-returns
-returns c = put-cut _ _ (c .if1 .taken)
+returns c = put-cut _ _ (omega arith)
 
 slice-write-report : tie.Need-slice-write-report
 slice-write-report c = search needs

@@ -4,7 +4,7 @@ use native.Mathlib.Omega.{arith}
 use borrow.Author.Needs.{needs}
 use borrow.Author.Count.{falls}
 use Rattle.faults.specs.Report.{certificate}
-use Rattle.faults.specs.Places.{asked}
+use Rattle.faults.specs.Index.{asked}
 use Rattle.faults.proofs.Laws.{SoFar, so-far-none, so-far-more, each-turn, so-far-done}
 use Rattle.trial.specs.Rules.{broken}
 use Rattle.trial.proofs.write_each.Statement.{statement}

@@ -5,7 +5,7 @@ use mathlib.Core.Path.{refl}
 use borrow.Author.Needs.{needs}
 use borrow.Author.Count.{falls}
 use Rattle.faults.specs.Report.{pair}
-use Rattle.faults.specs.Places.{asked}
+use Rattle.faults.specs.Index.{asked}
 use Rattle.faults.proofs.Laws.{SoFar, so-far-none, so-far-more, so-far-done}
 use Rattle.trial.specs.Rules.{broken}
 use Rattle.trial.proofs.write_neighbours.Statement.{statement}

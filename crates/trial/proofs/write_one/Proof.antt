@@ -1,4 +1,4 @@
-use Rattle.faults.specs.Places.{asked}
+use Rattle.faults.specs.Index.{asked}
 use borrow.Author.Needs.{needs}
 use Rattle.trial.proofs.write_one.Statement.{statement}
 use Rattle.trial.proofs.write_one.Tie as tie

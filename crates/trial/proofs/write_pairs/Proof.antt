@@ -3,7 +3,7 @@ use Prim.Native.Nat.{_+_, _-_, _≤_}
 use native.Mathlib.Omega.{arith}
 use borrow.Author.Needs.{needs}
 use borrow.Author.Count.{falls}
-use Rattle.faults.specs.Places.{row}
+use Rattle.faults.specs.Index.{row}
 use Rattle.faults.proofs.Laws.{SoFar, so-far-none, so-far-more, pairs-turn, so-far-done}
 use Rattle.trial.specs.Rules.{broken}
 use Rattle.trial.proofs.write_pairs.Statement.{statement}

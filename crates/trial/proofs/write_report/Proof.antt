@@ -1,4 +1,5 @@
 use Rattle.faults.proofs.Laws.{full-short, full-long}
+use Rattle.trial.proofs.Theorems.{whole}
 use borrow.Author.Needs.{needs}
 use Rattle.trial.proofs.write_report.Statement.{statement}
 use Rattle.trial.proofs.write_report.Tie as tie
@@ -10,7 +11,7 @@ same-length : tie.Need-same-length
 same-length c = search needs
 
 returns : tie.Need-returns
-returns c = rw (full-short _ _ _ _ _ (c .before .before .before .before .if1 .taken)) (c .before .before .put-short .ensures)
+returns c = whole _ _ _ _ _ (rw (full-short _ _ _ _ _ (c .before .before .before .before .if1 .taken)) (c .before .before .put-short .ensures))
 
 write-rules-requires : tie.Need-write-rules-requires
 write-rules-requires c κs = search needs
@@ -19,7 +20,7 @@ same-length-2 : tie.Need-same-length-2
 same-length-2 c = search needs
 
 returns-2 : tie.Need-returns-2
-returns-2 c = rw (full-long _ _ _ _ _ (c .before .before .before .before .if1 .left)) (c .before .before .write-rules .ensures)
+returns-2 c = whole _ _ _ _ _ (rw (full-long _ _ _ _ _ (c .before .before .before .before .if1 .left)) (c .before .before .write-rules .ensures))
 
 pub write-report-spec : {M : Type 1} → statement M
 write-report-spec =

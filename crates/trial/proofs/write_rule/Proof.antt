@@ -1,6 +1,6 @@
 -- Each case of the places has its writer. Written by tools/reports.py. Assumes nothing.
 use borrow.Author.Needs.{needs}
-use Rattle.faults.specs.Places.{entriesAt}
+use Rattle.faults.specs.Index.{entriesAt}
 use Rattle.faults.proofs.Laws.{wrote-none}
 use Rattle.trial.proofs.write_rule.Statement.{statement}
 use Rattle.trial.proofs.write_rule.Tie as tie

@@ -4,7 +4,7 @@ use native.Mathlib.Omega.{arith}
 use mathlib.Core.Path.{refl}
 use borrow.Author.Needs.{needs}
 use borrow.Author.Count.{falls}
-use Rattle.faults.specs.Places.{entriesAt, index}
+use Rattle.faults.specs.Index.{entriesAt, index}
 use Rattle.faults.proofs.Laws.{SoFar, so-far-none, so-far-more, so-far-done}
 use Rattle.trial.specs.Rules.{broken, placesOf, rules}
 use Rattle.trial.proofs.write_rules.Statement.{statement}

@@ -8,7 +8,7 @@ use mathlib.Core.List.{List}
 use mathlib.Core.Bool.{Bool, true, false}
 use lib.ListN.{length, length-append}
 use Rattle.faults.specs.Report.{one, certificate, pair}
-use Rattle.faults.specs.Places.{gather, asked, row, entriesAt, index}
+use Rattle.faults.specs.Index.{gather, asked, row, entriesAt, index}
 use Rattle.faults.specs.Count.{sum, placesCount, isSingle, isPairs, singleRules, pairRules}
 use Rattle.faults.specs.declared.Spot.{Spot}
 use Rattle.faults.specs.declared.Entry.{Entry}
