@@ -1,3 +1,4 @@
+-- The first entry of two writers. Assumes nothing.
 use mathlib.Core.Path.{refl}
 use borrow.Author.Needs.{needs}
 use Rattle.faults.proofs.earlier.Statement.{statement}

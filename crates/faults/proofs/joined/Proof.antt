@@ -1,3 +1,4 @@
+-- What two writers hand back together. Assumes nothing.
 use borrow.Author.Needs.{needs}
 use Rattle.faults.proofs.joined.Statement.{statement}
 use Rattle.faults.proofs.joined.Tie as tie

@@ -1,3 +1,4 @@
+-- An entry where the test holds. Assumes nothing.
 use Rattle.faults.proofs.Laws.{put-none, put-one}
 use borrow.Author.Needs.{needs}
 use Rattle.faults.proofs.put.Statement.{statement}

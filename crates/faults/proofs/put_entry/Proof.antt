@@ -1,3 +1,4 @@
+-- An entry is written whole, or not at all. Assumes nothing.
 use native.Mathlib.Omega.{arith}
 use mathlib.Core.Path.{refl}
 use lib.ListN.{length-set}

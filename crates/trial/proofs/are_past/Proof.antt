@@ -1,3 +1,4 @@
+-- A made-up rule is its definition. Assumes nothing.
 use Rattle.trial.specs.Rules.{bothPast}
 use borrow.Author.Needs.{needs}
 use Rattle.trial.proofs.are_past.Statement.{statement}

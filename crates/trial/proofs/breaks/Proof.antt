@@ -1,3 +1,4 @@
+-- Each kind of spot has its table. Assumes nothing.
 use Rattle.trial.specs.Rules.{broken}
 use borrow.Author.Needs.{needs}
 use Rattle.trial.proofs.breaks.Statement.{statement}

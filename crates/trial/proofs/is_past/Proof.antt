@@ -1,3 +1,4 @@
+-- A made-up rule is its definition. Assumes nothing.
 use Rattle.trial.specs.Rules.{past}
 use borrow.Author.Needs.{needs}
 use Rattle.trial.proofs.is_past.Statement.{statement}

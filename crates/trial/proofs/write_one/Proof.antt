@@ -1,3 +1,4 @@
+-- One test, and one entry where it holds. Assumes nothing.
 use Rattle.faults.specs.Index.{asked}
 use borrow.Author.Needs.{needs}
 use Rattle.trial.proofs.write_one.Statement.{statement}

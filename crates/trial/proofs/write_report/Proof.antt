@@ -1,3 +1,4 @@
+-- A short chain has its one entry, any other what its rules owe. Assumes nothing.
 use Rattle.faults.proofs.Laws.{full-short, full-long}
 use Rattle.trial.proofs.Theorems.{whole}
 use borrow.Author.Needs.{needs}
