@@ -12,7 +12,7 @@ use borrow.Rule.Slice.PartMut.{putMid, post-is}
 use Rattle.laws.proofs.Parts.{rest}
 use Rattle.faults.specs.Report.{certificate, one, write, wordsOf, fitting, firstOf, mostCount, Wrote, noneYet, earlier, joined}
 use Rattle.faults.specs.Index.{gather, asked, row, index, fullIndex}
-use Rattle.faults.specs.Places.{shortEntry, when}
+use Rattle.faults.specs.Places.{fewest, shortEntry, when}
 use Rattle.faults.specs.declared.Spot.{Spot}
 use Rattle.faults.specs.declared.Entry.{Entry}
 use Rattle.faults.specs.declared.Places.{Places}
@@ -178,15 +178,15 @@ module _ (T : ℕ → Spot → Bool) (r : ℕ) {a i : ℕ} (h : a ≤ i) where
   pub pairs-turn : row T r i i ≡ row T r (a + (i - a)) (a + (i - a))
   pairs-turn = rw from-is refl
 
--- ---- the whole index: of fewer than two certificates, and of more
+-- ---- the whole index: of too few certificates, and of enough
 module _ (short : ℕ) (T : ℕ → Spot → Bool) (P : ℕ → Places) (rules n : ℕ) where
-  pub full-short : n < 2 → fullIndex short T P rules n ≡ shortEntry short ∷ []
+  pub full-short : n < fewest → fullIndex short T P rules n ≡ shortEntry short ∷ []
   unfolding fullIndex
-  full-short h = rw (lt-ltb n 2 h)
+  full-short h = rw (lt-ltb n fewest h)
 
-  pub full-long : 2 ≤ n → fullIndex short T P rules n ≡ index T P n rules
+  pub full-long : fewest ≤ n → fullIndex short T P rules n ≡ index T P n rules
   unfolding fullIndex
-  full-long h = rw (le-ltb n 2 h)
+  full-long h = rw (le-ltb n fewest h)
 
 -- ---- a table by number: what stands past a line that is not the number's
 pub other : {A : Type 0} {r k : ℕ} {x : A} (a b : A) → (r ≡ k → ⊥) → x ≡ b → x ≡ when r k a b

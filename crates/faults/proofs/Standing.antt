@@ -1,4 +1,4 @@
--- Where the entries of one rule stand in the index of at least two certificates, by the kind of its places; of no other spot it has any. Assumes nothing.
+-- Where the entries of one rule stand in the index of enough certificates, by the kind of its places; of no other spot it has any. Assumes nothing.
 use Prim.Native.Nat.{ℕ, _+_, _-_, _≤_, _<_}
 use native.Mathlib.Omega.{arith}
 use mathlib.Core.Path.{_≡_, sym, subst}
@@ -7,14 +7,14 @@ use mathlib.Core.Bool.{Bool, true}
 use Rattle.table.specs.declared.CertPos.{CertPos}
 use Rattle.faults.specs.Report.{entry, certificate, pair}
 use Rattle.faults.specs.Index.{fullIndex}
-use Rattle.faults.specs.Places.{IsPlace}
+use Rattle.faults.specs.Places.{IsPlace, fewest}
 use Rattle.faults.specs.Order.{In, DueShort, DueBroken, NoneFrom}
 use Rattle.faults.specs.declared.Spot.{Spot}
 use Rattle.faults.specs.declared.Places.{Places}
 use Rattle.faults.specs.declared.Places.the-variants.{Nowhere, Leaf, Root, LeafAndRoot, Each, Neighbours, Pairs}
 use Rattle.faults.proofs.Theorems.{sound, complete}
 
-module _ (short : ℕ) (T : ℕ → Spot → Bool) (P : ℕ → Places) (rules n : ℕ) (no-more : NoneFrom P rules) (enough : 2 ≤ n) (r : ℕ) where
+module _ (short : ℕ) (T : ℕ → Spot → Bool) (P : ℕ → Places) (rules n : ℕ) (no-more : NoneFrom P rules) (enough : fewest ≤ n) (r : ℕ) where
   -- rule r has an entry at s
   abbrev Stands : Spot → Type 0
   Stands s = In (entry r s) (fullIndex short T P rules n)

@@ -3,17 +3,18 @@ use Prim.Native.Nat.{ℕ, zero, suc, _+_, _-_, _*_, _/_, _≤_, _<_}
 use native.Mathlib.Omega.{arith}
 use native.Mathlib.Decide.{decLt}
 use native.Mathlib.Nat.{mul-le-mul-left, mul-le-mul-right}
-use mathlib.Core.Path.{_≡_, refl, sym, ap, subst, _∙_}
+use mathlib.Core.Path.{_≡_, refl, sym, ap, ap₂, subst, _∙_}
 use mathlib.Core.Logic.{_⊎_, inl, inr, ⊎-elim, _↔_}
 use mathlib.Core.List.{List, [], _∷_, List·Memᴰ·head, List·Memᴰ·tail, List·Memᴰ·not-nil, List·Memᴰ·cases-cons, List·Memᴰ·eq-of-singleton}
 use mathlib.Core.Bool.{Bool}
 use lib.ListN.{length, getD, take, drop}
-use Rattle.faults.specs.Report.{wordsOf, write, fitting, firstOf, mostCount, Wrote}
+use Rattle.faults.specs.Report.{certificate, pair, firstWord, secondWord, entry, Named, wordsOf, write, fitting, firstOf, mostCount, Wrote}
 use Rattle.faults.specs.Index.{fullIndex}
-use Rattle.faults.specs.Places.{IsPlace}
+use Rattle.faults.specs.Places.{IsPlace, fewest}
 use Rattle.faults.specs.Order.{In, Less, Ascending, Due, NoneFrom, Reported}
 use Rattle.faults.specs.Count.{sum, placesCount, singleRules, pairRules}
 use Rattle.faults.specs.declared.Spot.{Spot}
+use Rattle.faults.specs.declared.Spot.the-variants.{Nothing, Certificate, Pair}
 use Rattle.faults.specs.declared.Entry.{Entry}
 use Rattle.faults.specs.declared.First.{First}
 use Rattle.faults.specs.declared.First.the-variants.{Clear, Broken}
@@ -36,6 +37,24 @@ entry-at = write-entry
 -- Behind the entries that fit, every word is as it was: none is cut.
 pub rest-stays : (es : List Entry) (b : List ℕ) → drop (3 * fitting es b) (write es b) ≡ drop (3 * fitting es b) b
 rest-stays es b = write-past es b (3 * fitting es b) refl
+
+spot-tell : (s u : Spot) → Named s → Named u → firstWord s ≡ firstWord u → secondWord s ≡ secondWord u → s ≡ u
+spot-tell Nothing Nothing m k p q = refl
+spot-tell Nothing (Certificate i) m k p q = absurd (omega arith)
+spot-tell Nothing (Pair i j) m k p q = absurd (omega arith)
+spot-tell (Certificate i) Nothing m k p q = absurd (omega arith)
+spot-tell (Certificate i) (Certificate h) m k p q = ap (λ (x : ℕ). certificate x) p
+spot-tell (Certificate i) (Pair h j) m k p q = absurd (omega arith)
+spot-tell (Pair i j) Nothing m k p q = absurd (omega arith)
+spot-tell (Pair i j) (Certificate h) m k p q = absurd (omega arith)
+spot-tell (Pair i j) (Pair h l) m k p q = ap₂ (λ (x y : ℕ). pair x y) p q
+
+-- The words of an entry tell which it is, as long as none of its positions is the word for none.
+pub words-tell : (a b : Entry) → Named (a .spot) → Named (b .spot) → wordsOf a ≡ wordsOf b → a ≡ b
+words-tell a b m k e =
+    let r : a .rule .0 ≡ b .rule .0 = cc in
+    let s : a .spot ≡ b .spot = spot-tell (a .spot) (b .spot) m k (cc) (cc) in
+    ap₂ (λ (x : ℕ) (y : Spot). entry x y) r s
 
 -- A count is exact as long as it can be.
 pub total-exact : {es : List Entry} {old new : List ℕ} {t : Tally} → Wrote es old new t → length es ≤ mostCount → t .total ≡ length es
@@ -92,24 +111,24 @@ module _ (short : ℕ) (T : ℕ → Spot → Bool) (P : ℕ → Places) (rules n
 
   -- Only what is due stands in the index.
   pub sound : (e : Entry) → In e Whole → DueHere e
-  sound e m = elim (decLt n 2) [
+  sound e m = elim (decLt n fewest) [
     | yes h ↦ inl (record { few = h; is = List·Memᴰ·eq-of-singleton (rw (full-short short T P rules n h) at m) })
-    | no h ↦ let g : 2 ≤ n = omega arith in let o = index-in T P n rules e (rw (full-long short T P rules n g) at m) in inr (record { enough = g; place = o .1; broken = o .2 })
+    | no h ↦ let g : fewest ≤ n = omega arith in let o = index-in T P n rules e (rw (full-long short T P rules n g) at m) in inr (record { enough = g; place = o .1; broken = o .2 })
   ]
 
   -- The index ascends by rule, i and j.
   pub ascends : Ascending Whole
-  ascends = elim (decLt n 2) [
+  ascends = elim (decLt n fewest) [
     | yes h ↦ rw (full-short short T P rules n h) (λ y m. absurd (List·Memᴰ·not-nil m), tt)
-    | no h ↦ let g : 2 ≤ n = omega arith in rw (full-long short T P rules n g) (index-ascends T P n rules)
+    | no h ↦ let g : fewest ≤ n = omega arith in rw (full-long short T P rules n g) (index-ascends T P n rules)
   ]
 
-  -- Of fewer than two certificates there is one entry.
-  pub short-length : n < 2 → length Whole ≡ 1
+  -- Of too few certificates there is one entry.
+  pub short-length : n < fewest → length Whole ≡ 1
   short-length h = ap length (full-short short T P rules n h)
 
   -- There are no more entries than places.
-  pub places-bound : 2 ≤ n → length Whole ≤ sum (λ r. placesCount (P r) n) rules
+  pub places-bound : fewest ≤ n → length Whole ≤ sum (λ r. placesCount (P r) n) rules
   places-bound h = rw (full-long short T P rules n h) (index-length T P n rules)
 
   -- With at most k rules that ask each certificate at most once, and at most one that asks all pairs, there are at most kn + n(n - 1)/2 entries.
@@ -118,7 +137,7 @@ module _ (short : ℕ) (T : ℕ → Spot → Bool) (P : ℕ → Places) (rules n
       let a : singleRules P rules * n ≤ k * n = mul-le-mul-right n s in
       let b : pairRules P rules * (n * (n - 1) / 2) ≤ 1 * (n * (n - 1) / 2) = mul-le-mul-right (n * (n - 1) / 2) q in
       let d : 1 * n ≤ k * n = mul-le-mul-right n o in
-      elim (decLt n 2) [
+      elim (decLt n fewest) [
         | yes h ↦ omega (arith, short-length h)
         | no h ↦ omega (arith, places-bound (omega arith), table-most P n rules l)
       ]
@@ -151,14 +170,6 @@ module _ (short : ℕ) (T : ℕ → Spot → Bool) (P : ℕ → Places) (rules n
     pub only : (l : List Entry) → Ascending l → ((e : Entry) → In e l ↔ DueHere e) → l ≡ Whole
     only l a h = only-one l Whole a ascends (λ e m. complete e (h e .0 m)) (λ e m. h e .1 (sound e m))
 
-    -- The first entry is due and goes before all others that are.
-    pub first-least : (f : Entry) → firstOf Whole ≡ Broken f → DueHere f × ((e : Entry) → DueHere e → (e ≡ f) ⊎ Less f e)
-    first-least f h = let (m, g) = head-least Whole ascends f h in (sound f m, λ e d. g e (complete e d))
-
-    -- There is no first entry exactly if none is due.
-    pub first-clear : (firstOf Whole ≡ Clear) ↔ ((e : Entry) → DueHere e → ⊥)
-    first-clear = (λ h e d. no-head Whole h e (complete e d), λ h. empty-head Whole (λ e m. h e (sound e m)))
-
     -- Whoever writes the index writes the whole report.
     pub reported : {old new : List ℕ} {t : Tally} → Wrote Whole old new t → Reported short T P n old new t
     reported w = record { entries = Whole; ascending = ascends; exactly = exactly; wrote = w }
@@ -167,11 +178,23 @@ module _ (short : ℕ) (T : ℕ → Spot → Bool) (P : ℕ → Places) (rules n
     pub reported-is : {old new : List ℕ} {t : Tally} (p : Reported short T P n old new t) → p .entries ≡ Whole
     reported-is p = only (p .entries) (p .ascending) (p .exactly)
 
--- Two whole reports of the same rules are equal, word for word, and so is what is handed back.
-pub one-report : (short : ℕ) (T : ℕ → Spot → Bool) (P : ℕ → Places) (n : ℕ) {old new new' : List ℕ} {t t' : Tally}
-    → Reported short T P n old new t → Reported short T P n old new' t' → (new ≡ new') × (t ≡ t')
-one-report short T P n p q =
-    let e : p .entries ≡ q .entries =
-    only-one (p .entries) (q .entries) (p .ascending) (q .ascending) (λ e m. q .exactly e .1 (p .exactly e .0 m)) (λ e m. p .exactly e .1 (q .exactly e .0 m))
-    in
-    one-outcome (rw e at (p .wrote)) (q .wrote)
+-- ---- a whole report
+module _ (short : ℕ) (T : ℕ → Spot → Bool) (P : ℕ → Places) (n : ℕ) {old new : List ℕ} {t : Tally} (p : Reported short T P n old new t) where
+  -- The first entry that is handed back is due, and goes before all others that are.
+  pub first-least : (f : Entry) → t .first ≡ Broken f → Due short T P n f × ((e : Entry) → Due short T P n e → (e ≡ f) ⊎ Less f e)
+  first-least f h =
+      let (m, g) = head-least (p .entries) (p .ascending) f (sym (p .wrote .first-is) ∙ h) in
+      (p .exactly f .0 m, λ e d. g e (p .exactly e .1 d))
+
+  -- No first entry is handed back exactly if none is due.
+  pub first-clear : (t .first ≡ Clear) ↔ ((e : Entry) → Due short T P n e → ⊥)
+  first-clear = (
+    λ h e d. no-head (p .entries) (sym (p .wrote .first-is) ∙ h) e (p .exactly e .1 d),
+    λ h. p .wrote .first-is ∙ empty-head (p .entries) (λ e m. h e (p .exactly e .0 m)),
+  )
+
+  -- Two whole reports of the same rules are equal, word for word, and so is what is handed back.
+  pub one-report : {new' : List ℕ} {t' : Tally} → Reported short T P n old new' t' → (new ≡ new') × (t ≡ t')
+  one-report q =
+      let e : p .entries ≡ q .entries = only-one (p .entries) (q .entries) (p .ascending) (q .ascending) (λ e m. q .exactly e .1 (p .exactly e .0 m)) (λ e m. p .exactly e .1 (q .exactly e .0 m)) in
+      one-outcome (rw e at (p .wrote)) (q .wrote)

@@ -5,7 +5,7 @@ use mathlib.Core.Bool.{Bool}
 use lib.Dec.{ltb}
 use Rattle.laws.specs.Lists.{pick}
 use Rattle.faults.specs.Report.{entry, one, certificate, pair}
-use Rattle.faults.specs.Places.{shortEntry}
+use Rattle.faults.specs.Places.{fewest, shortEntry}
 use Rattle.faults.specs.declared.Spot.{Spot}
 use Rattle.faults.specs.declared.Entry.{Entry}
 use Rattle.faults.specs.declared.Places.{Places}
@@ -52,6 +52,6 @@ module _ (T : ℕ → Spot → Bool) where
   unfoldable pub index : (ℕ → Places) → ℕ → ℕ → List Entry
   index P n rules = gather (λ (r : ℕ). entriesAt (P r) r n) rules
 
--- all entries of a chain of n certificates: of fewer than 2 the entry of rule `short` alone, and else the index
+-- all entries of a chain of n certificates: of too few the entry of rule `short` alone, and else the index
 unfoldable pub fullIndex : ℕ → (ℕ → Spot → Bool) → (ℕ → Places) → ℕ → ℕ → List Entry
-fullIndex short T P rules n = pick (ltb n 2) (shortEntry short ∷ []) (index T P n rules)
+fullIndex short T P rules n = pick (ltb n fewest) (shortEntry short ∷ []) (index T P n rules)

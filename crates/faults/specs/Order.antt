@@ -5,7 +5,7 @@ use mathlib.Core.Logic.{_⊎_, _↔_}
 use mathlib.Core.List.{List, [], _∷_, List·Memᴰ}
 use mathlib.Core.Bool.{Bool, true}
 use Rattle.faults.specs.Report.{firstWord, secondWord, Wrote}
-use Rattle.faults.specs.Places.{IsPlace, shortEntry}
+use Rattle.faults.specs.Places.{IsPlace, fewest, shortEntry}
 use Rattle.faults.specs.declared.Spot.{Spot}
 use Rattle.faults.specs.declared.Entry.{Entry}
 use Rattle.faults.specs.declared.Tally.{Tally}
@@ -28,12 +28,12 @@ Ascending (x ∷ xs) = ((y : Entry) → In y xs → Less x y) × Ascending xs
 module _ (short : ℕ) (T : ℕ → Spot → Bool) (P : ℕ → Places) (n : ℕ) where
   -- the chain is too short, and e says so
   pub record DueShort (e : Entry) : Type 0 where
-    pub few : n < 2
+    pub few : n < fewest
     pub is : e ≡ shortEntry short
 
   -- e's rule is asked at e's spot, and broken there
   pub record DueBroken (e : Entry) : Type 0 where
-    pub enough : 2 ≤ n
+    pub enough : fewest ≤ n
     pub place : IsPlace (P (e .rule .0)) n (e .spot)
     pub broken : T (e .rule .0) (e .spot) ≡ true
 

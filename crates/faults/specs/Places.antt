@@ -20,6 +20,10 @@ IsPlace (Each from before) n s = (i : ℕ) × (from .0 ≤ i) × (i + before < n
 IsPlace Neighbours n s = (i : ℕ) × (i + 1 < n) × (s ≡ pair i (i + 1))
 IsPlace (Pairs from before) n s = (i : ℕ) × (j : ℕ) × (from .0 ≤ i) × (i + before < n) × (j < i) × (s ≡ pair i j)
 
+-- the fewest certificates that make a chain
+abbrev pub fewest : ℕ
+fewest = 2
+
 -- the entry of a chain that is too short to be judged
 abbrev pub shortEntry : ℕ → Entry
 shortEntry short = entry short Nothing

@@ -1,5 +1,5 @@
 -- A report: its entries, their words, and what it is to write them into a buffer (document 01, "What the judge says"). Nothing here knows a rule. Assumes nothing.
-use Prim.Native.Nat.{ℕ, min, _+_, _/_}
+use Prim.Native.Nat.{ℕ, min, _+_, _/_, _<_}
 use mathlib.Core.Path.{_≡_}
 use mathlib.Core.List.{List, [], _∷_, _++_}
 use mathlib.Core.Bool.{Bool, true, false}
@@ -33,6 +33,12 @@ abbrev pub secondWord : Spot → ℕ
 secondWord Nothing = none
 secondWord (Certificate i) = none
 secondWord (Pair i j) = j .0
+
+-- the positions of a spot can't be taken for none
+abbrev pub Named : Spot → Type 0
+Named Nothing = Unit {0}
+Named (Certificate i) = i .0 < none
+Named (Pair i j) = (i .0 < none) × (j .0 < none)
 
 -- rule r is broken at a spot
 abbrev pub entry : ℕ → Spot → Entry

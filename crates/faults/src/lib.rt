@@ -10,6 +10,9 @@ use table::RuleNo;
 // The word of an entry that names no certificate.
 const NONE: u32 = 65535;
 
+// The fewest certificates that make a chain.
+pub const FEWEST: u32 = 2;
+
 // A count stops here.
 const MOST: usize = 18446744073709551615;
 

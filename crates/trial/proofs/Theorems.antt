@@ -8,7 +8,7 @@ use mathlib.Core.Bool.{true}
 use lib.ListN.{length}
 use Rattle.faults.specs.Report.{entry, certificate, pair, Wrote}
 use Rattle.faults.specs.Index.{fullIndex}
-use Rattle.faults.specs.Places.{when}
+use Rattle.faults.specs.Places.{fewest, when}
 use Rattle.faults.specs.Order.{In, NoneFrom, Reported}
 use Rattle.faults.specs.Count.{sum, isSingle, isPairs, singleRules, pairRules}
 use Rattle.faults.specs.declared.Spot.{Spot}
@@ -65,8 +65,8 @@ module _ (w b pw pb : List ℕ) (n : ℕ) where
       let e = total-exact (p .wrote) (omega arith) in
       (e, omega (arith, e))
 
-  -- ---- rule by rule: where its entries stand, of two certificates or more, and that it has no others
-  module _ (enough : 2 ≤ n) (s : Spot) where
+  -- ---- rule by rule: where its entries stand, of enough certificates, and that it has no others
+  module _ (enough : fewest ≤ n) (s : Spot) where
     -- rule r has an entry at s
     abbrev Stands : ℕ → Type 0
     Stands r = In (entry r s) entries

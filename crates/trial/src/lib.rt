@@ -6,6 +6,7 @@ ghost use Rattle.faults.specs.Order.{Reported};
 ghost use Rattle.faults.specs.Index.{asked, each, neighbours, row, pairs, entriesAt, index};
 ghost use Rattle.trial.specs.Rules.{over, past, equal, bothPast, brokenAt, brokenBetween, broken, placesOf, rules, short};
 use faults::Entry;
+use faults::FEWEST;
 use faults::NONE_YET;
 use faults::Places;
 use faults::Spot;
@@ -334,7 +335,7 @@ pub fn write_report(
 ) -> Tally
     ensures { λ t. ⌜ Reported short (broken (now (words .entry)) (now (bytes .entry)) (now (pwords .entry)) (now (pbytes .entry))) placesOf n (now (report .entry)) (now (report .exit)) t ⌝ }
 {
-    if n < 2 {
+    if n < FEWEST {
         return faults::put_short(SHORT, report);
     }
     write_rules(n, words, bytes, pwords, pbytes, report)

@@ -1,6 +1,6 @@
--- Each kind of spot has its table. Assumes nothing.
-use Rattle.trial.specs.Rules.{broken}
+-- Each kind of spot has its table. Written by tools/reports.py. Assumes nothing.
 use borrow.Author.Needs.{needs}
+use Rattle.trial.specs.Rules.{broken}
 use Rattle.trial.proofs.breaks.Statement.{statement}
 use Rattle.trial.proofs.breaks.Tie as tie
 

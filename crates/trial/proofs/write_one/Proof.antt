@@ -1,6 +1,6 @@
--- One test, and one entry where it holds. Assumes nothing.
-use Rattle.faults.specs.Index.{asked}
+-- One test, and one entry where it holds. Written by tools/reports.py. Assumes nothing.
 use borrow.Author.Needs.{needs}
+use Rattle.faults.specs.Index.{asked}
 use Rattle.trial.proofs.write_one.Statement.{statement}
 use Rattle.trial.proofs.write_one.Tie as tie
 
