@@ -104,15 +104,15 @@ def proof(crate, function, says, uses, answers, start=()):
 
 
 def loop_start(row, kind):
-    """The invariant and the measure of a loop."""
+    """The invariant and the measure of a loop. That the bound fits a u32 is said again, since the parameters lie too deep for `omega` to look."""
     var, bound, given = kind["var"], kind["bound"], row["first"] + row["lent"]
     tables = {"T": f"({' '.join([row['test'], *given])})", "(P": "(" + " ".join([row["places"], *row["first"]])}
     turn = " ".join(tables.get(word, word) for word in kind["turn"].split(" "))
     names = [*row["first"], kind["takes"], *row["lent"], "report₀", kind.get("locals"), "tally₀", f"{var}₀", "report", "tally", var]
     names = " ".join(name for name in names if name)
-    facts, done = f"({var} ≤ {bound})", var
+    facts, done = f"({var} ≤ {bound}) × ({bound} < 4294967296)", var
     if "law" in kind:
-        facts, done = f"({var}₀ ≤ {var}) × ({var} - {var}₀ ≤ {bound} - {var}₀)", f"({var} - {var}₀)"
+        facts, done = f"({var}₀ ≤ {var}) × ({var} - {var}₀ ≤ {bound} - {var}₀) × ({bound} < 4294967296)", f"({var} - {var}₀)"
     return [
         "abbrev Inv-loop : tie.InvT-loop",
         f"Inv-loop {names} =",
@@ -127,7 +127,7 @@ def loop_start(row, kind):
 def loop(crate, row, function, kind):
     """A loop that lends the tail of the report to one writer a turn."""
     call, var, law = dashed(kind["call"]), kind["var"], kind.get("law")
-    known = 2 if law else 1
+    known = 3 if law else 2
     same = f"({law} _ _ (l .inv .0))" if law else "refl"
     more = f"so-far-more _ (omega arith) (l .inv .{known}) (p .{call} .ensures) {same} (c .joined .ensures)"
     again = ["", f"let p = {back(3)} in", "let l = p .before .before .before .before .loop in (", *known * ["  omega arith,"], f"  {more},", ")"]
@@ -147,7 +147,7 @@ def loop(crate, row, function, kind):
     start = loop_start(row, kind)
     text = "\n".join(start) + " " + kind.get("opens", "")
     uses = [
-        some("Prim.Native.Nat", (["_+_"] if "+" in kind["turn"] else []) + ["_-_", "_≤_"]),
+        some("Prim.Native.Nat", (["_+_"] if "+" in kind["turn"] else []) + ["_-_", "_≤_", "_<_"]),
         "native.Mathlib.Omega.{arith}",
         None if law else "mathlib.Core.Path.{refl}",
         "borrow.Author.Needs.{needs}",

@@ -193,6 +193,15 @@ module _ (short : ℕ) (T : ℕ → Spot → Bool) (P : ℕ → Places) (n : ℕ
     λ h. p .wrote .first-is ∙ empty-head (p .entries) (λ e m. h e (p .exactly e .0 m)),
   )
 
+  -- The total that is handed back is how many entries there are, and at most `most` certificates have few.
+  pub total-most : (rules k most : ℕ) → NoneFrom P rules → 1 ≤ k → 1 ≤ most → n ≤ most → singleRules P rules ≤ k → pairRules P rules ≤ 1
+      → k * most + most * (most - 1) / 2 ≤ mostCount → (t .total ≡ length (p .entries)) × (t .total ≤ k * most + most * (most - 1) / 2)
+  total-most rules k most z o l u s q c =
+      let b = bound-most short T P rules n k most o l u s q in
+      let m : length (p .entries) ≤ k * most + most * (most - 1) / 2 = rw (reported-is short T P rules n z p) b in
+      let e = total-exact (p .wrote) (omega arith) in
+      (e, omega (arith, e))
+
   -- Two whole reports of the same rules are equal, word for word, and so is what is handed back.
   pub one-report : {new' : List ℕ} {t' : Tally} → Reported short T P n old new' t' → (new ≡ new') × (t ≡ t')
   one-report q =

@@ -16,7 +16,7 @@ use Rattle.faults.specs.declared.Entry.{Entry}
 use Rattle.faults.specs.declared.Tally.{Tally}
 use Rattle.faults.proofs.Laws.{other}
 use Rattle.faults.proofs.Standing.{nowhere-entries, leaf-entries, root-entries, ends-entries, each-entries, neighbours-entries, pairs-entries}
-use Rattle.faults.proofs.Theorems.{total-exact, bound, bound-most, reported, reported-is}
+use Rattle.faults.proofs.Theorems.{bound, reported, total-most}
 use Rattle.trial.specs.Rules.{over, past, equal, bothPast, brokenAt, brokenBetween, broken, placesOf, rules, short}
 
 -- The table has no rule from 21 on, so the loop to 20 misses none.
@@ -58,12 +58,7 @@ module _ (w b pw pb : List ℕ) (n : ℕ) where
   -- Of at most 16 certificates there are at most 232, and the total that is handed back is how many there are.
   pub exact-total : {old new : List ℕ} {t : Tally} → n ≤ 16 → (p : Reported short (broken w b pw pb) placesOf n old new t) → (t .total ≡ length (p .entries)) × (t .total ≤ 232)
   exact-total h p =
-      let l : length entries ≤ 232 =
-      bound-most short (broken w b pw pb) placesOf rules n 7 16 (omega arith) (omega arith) h (omega (arith, seven)) (omega (arith, one-of-pairs))
-      in
-      let m : length (p .entries) ≤ 232 = rw (reported-is short (broken w b pw pb) placesOf rules n no-more p) l in
-      let e = total-exact (p .wrote) (omega arith) in
-      (e, omega (arith, e))
+      total-most short (broken w b pw pb) placesOf n p rules 7 16 no-more (omega arith) (omega arith) h (omega (arith, seven)) (omega (arith, one-of-pairs)) (omega arith)
 
   -- ---- rule by rule: where its entries stand, of enough certificates, and that it has no others
   module _ (enough : fewest ≤ n) (s : Spot) where

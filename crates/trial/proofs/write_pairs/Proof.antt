@@ -1,5 +1,5 @@
 -- Each turn writes into what the turns before it left free. Written by tools/reports.py. Assumes nothing.
-use Prim.Native.Nat.{_+_, _-_, _≤_}
+use Prim.Native.Nat.{_+_, _-_, _≤_, _<_}
 use native.Mathlib.Omega.{arith}
 use borrow.Author.Needs.{needs}
 use Rattle.faults.specs.Index.{row}
@@ -10,13 +10,13 @@ use Rattle.trial.proofs.write_pairs.Tie as tie
 
 abbrev Inv-loop : tie.InvT-loop
 Inv-loop rule to words bytes pwords pbytes report₀ tally₀ i₀ report tally i =
-    (i₀ ≤ i) × (i - i₀ ≤ to - i₀) × SoFar (λ k. row (broken words bytes pwords pbytes) (rule .0) (i₀ + k) (i₀ + k)) (i - i₀) report₀ report tally
+    (i₀ ≤ i) × (i - i₀ ≤ to - i₀) × (to < 4294967296) × SoFar (λ k. row (broken words bytes pwords pbytes) (rule .0) (i₀ + k) (i₀ + k)) (i - i₀) report₀ report tally
 
 abbrev μ-loop : tie.MeasureT-loop
 μ-loop rule to words bytes pwords pbytes report₀ tally₀ i₀ report tally i = to - i
 
 loop-holds : tie.Need-loop-holds Inv-loop μ-loop
-loop-holds c = (omega arith, omega arith, so-far-none _ _ _ (omega arith) (omega arith))
+loop-holds c = (omega arith, omega arith, omega arith, so-far-none _ _ _ (omega arith) (omega arith))
 
 mul-at : tie.Need-mul-at Inv-loop μ-loop
 mul-at c = omega arith
@@ -51,14 +51,15 @@ loop-again c =
     let l = p .before .before .before .before .loop in (
       omega arith,
       omega arith,
-      so-far-more _ (omega arith) (l .inv .2) (p .write-row .ensures) (pairs-turn _ _ (l .inv .0)) (c .joined .ensures),
+      omega arith,
+      so-far-more _ (omega arith) (l .inv .3) (p .write-row .ensures) (pairs-turn _ _ (l .inv .0)) (c .joined .ensures),
     )
 
 same-length : tie.Need-same-length Inv-loop μ-loop
 same-length c = search needs
 
 returns : tie.Need-returns Inv-loop μ-loop
-returns c = so-far-done _ (c .before .loop .inv .2) (omega arith)
+returns c = so-far-done _ (c .before .loop .inv .3) (omega arith)
 
 pub write-pairs-spec : {M : Type 1} → statement M
 write-pairs-spec =

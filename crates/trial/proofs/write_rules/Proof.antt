@@ -1,5 +1,5 @@
 -- Each turn writes into what the turns before it left free. Written by tools/reports.py. Assumes nothing.
-use Prim.Native.Nat.{_-_, _≤_}
+use Prim.Native.Nat.{_-_, _≤_, _<_}
 use native.Mathlib.Omega.{arith}
 use mathlib.Core.Path.{refl}
 use borrow.Author.Needs.{needs}
@@ -11,13 +11,13 @@ use Rattle.trial.proofs.write_rules.Tie as tie
 
 abbrev Inv-loop : tie.InvT-loop
 Inv-loop n words bytes pwords pbytes report₀ tally₀ r₀ report tally r =
-    (r ≤ rules) × SoFar (λ k. entriesAt (broken words bytes pwords pbytes) (placesOf k) k n) r report₀ report tally
+    (r ≤ rules) × (rules < 4294967296) × SoFar (λ k. entriesAt (broken words bytes pwords pbytes) (placesOf k) k n) r report₀ report tally
 
 abbrev μ-loop : tie.MeasureT-loop
 μ-loop n words bytes pwords pbytes report₀ tally₀ r₀ report tally r = rules - r
 
 loop-holds : tie.Need-loop-holds Inv-loop μ-loop
-loop-holds c = (omega arith, so-far-none _ _ _ (omega arith) (omega arith))
+loop-holds c = (omega arith, omega arith, so-far-none _ _ _ (omega arith) (omega arith))
 
 mul-at : tie.Need-mul-at Inv-loop μ-loop
 mul-at c = omega arith
@@ -51,7 +51,8 @@ loop-again c =
     let p = c .before .before .before in
     let l = p .before .before .before .before .loop in (
       omega arith,
-      so-far-more _ (omega arith) (l .inv .1) (p .write-rule .ensures) refl (c .joined .ensures),
+      omega arith,
+      so-far-more _ (omega arith) (l .inv .2) (p .write-rule .ensures) refl (c .joined .ensures),
     )
 
 same-length : tie.Need-same-length Inv-loop μ-loop
@@ -59,7 +60,7 @@ same-length c = search needs
 
 returns : tie.Need-returns Inv-loop μ-loop
 unfolding index
-returns c = so-far-done _ (c .before .loop .inv .1) (omega arith)
+returns c = so-far-done _ (c .before .loop .inv .2) (omega arith)
 
 pub write-rules-spec : {M : Type 1} → statement M
 write-rules-spec =
