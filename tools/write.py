@@ -6,10 +6,11 @@ import sys
 import bundles
 import byte_table
 import loops
+import reports
 import row_loops
 import searches
 
-MAKERS = [bundles, byte_table, loops, row_loops, searches]
+MAKERS = [bundles, byte_table, loops, reports, row_loops, searches]
 TOP = pathlib.Path(__file__).resolve().parent.parent
 
 
