@@ -23,22 +23,21 @@ pub version-fits : {A B : Type 0} (a b v : ℕ) (x : A) (y : B) {c d u : ℕ} �
 version-fits a b v x y e f g = rw (e, f, g, ← there-is a x, ← there-is b y, neither) refl
 
 -- ---- rule 5
--- bit k or one below it, if s says whether there is one below it
-bit-more : (n k : ℕ) {s : Bool} → s ≡ not (eqb (n % 2 ^ k) 0) → (s || bitOf k n) ≡ not (eqb (n % 2 ^ (1 + k)) 0)
-unfolding bitOf
-bit-more n k {s} e = go (n / 2 ^ k % 2) (mod-lt (n / 2 ^ k) (omega arith)) (mod-pow-add n 1 k) where
-  go : (b : ℕ) → b < 2 → n % 2 ^ (1 + k) ≡ b * 2 ^ k + n % 2 ^ k → (s || eqb b 1) ≡ not (eqb (n % 2 ^ (1 + k)) 0)
-  go zero l m = or-false s ∙ e ∙ rw (m, zero-mul, zero-add) refl
-  go (suc zero) l m = or-true s ∙ rw (m, ne-eqb (1 * 2 ^ k + n % 2 ^ k) 0 (λ z. omega (arith, pow-pos k))) refl
-  go (suc (suc b)) l m = absurd (omega arith)
+module _ (n : ℕ) where
+  -- bit k or one below it, if s says whether there is one below it
+  bit-more : (k : ℕ) {s : Bool} → s ≡ not (eqb (n % 2 ^ k) 0) → (s || bitOf k n) ≡ not (eqb (n % 2 ^ (1 + k)) 0)
+  unfolding bitOf
+  bit-more k {s} e = go (n / 2 ^ k % 2) (mod-lt (n / 2 ^ k) (omega arith)) (mod-pow-add n 1 k) where
+    go : (b : ℕ) → b < 2 → n % 2 ^ (1 + k) ≡ b * 2 ^ k + n % 2 ^ k → (s || eqb b 1) ≡ not (eqb (n % 2 ^ (1 + k)) 0)
+    go zero l m = or-false s ∙ e ∙ rw (m, zero-mul, zero-add) refl
+    go (suc zero) l m = or-true s ∙ rw (m, ne-eqb (1 * 2 ^ k + n % 2 ^ k) 0 (λ z. omega (arith, pow-pos k))) refl
+    go (suc (suc b)) l m = absurd (omega arith)
 
-pub some-bit : (n : ℕ) → not (eqb (n % 512) 0) ≡ (bitOf 0 n || bitOf 1 n || bitOf 2 n || bitOf 3 n || bitOf 4 n || bitOf 5 n || bitOf 6 n || bitOf 7 n || bitOf 8 n)
-some-bit n = sym (more 8 (more 7 (more 6 (more 5 (more 4 (more 3 (more 2 (more 1 (more 0 none))))))))) where
   none : false ≡ not (eqb (n % 2 ^ 0) 0)
   none = rw (mod-one n) refl
 
-  more : (k : ℕ) {s : Bool} → s ≡ not (eqb (n % 2 ^ k) 0) → (s || bitOf k n) ≡ not (eqb (n % 2 ^ (1 + k)) 0)
-  more k e = bit-more n k e
+  pub some-bit : not (eqb (n % 512) 0) ≡ (bitOf 0 n || bitOf 1 n || bitOf 2 n || bitOf 3 n || bitOf 4 n || bitOf 5 n || bitOf 6 n || bitOf 7 n || bitOf 8 n)
+  some-bit = sym (bit-more 8 (bit-more 7 (bit-more 6 (bit-more 5 (bit-more 4 (bit-more 3 (bit-more 2 (bit-more 1 (bit-more 0 none)))))))))
 
 -- ---- rule 6
 module _ (least bits : ℕ) (d : Bool) {k : ℕ} where

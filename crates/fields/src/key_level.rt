@@ -14,7 +14,7 @@ const RSA: u64 = 0;
 
 const DSA: u64 = 1;
 
-// Whether a key is strong enough: `least` is for the bits of RSA, `dsa` says whether DSA is allowed.
+// Whether a key is strong enough: RSA needs `least` bits, and `dsa` says whether DSA is allowed.
 pub fn check_cert_key_level(words: &[u64], bytes: &[u8], least: u64, dsa: bool, c: CertRow) -> bool
     ensures { λ r. ⌜ r ≡ checkCertKeyLevel least dsa (certAt (now (words .entry)) (now (bytes .entry)) (c .0)) ⌝ }
 {

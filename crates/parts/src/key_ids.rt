@@ -4,6 +4,7 @@ ghost use Rattle.model.specs.Decode.{certAt};
 ghost use Rattle.parts.specs.KeyIds.{idsNotCritical, hasKeyIds, hasNoParts, checkAuthSubjectKeyId};
 use crate::BC;
 use crate::CRITICAL;
+use crate::EKU;
 use crate::KU;
 use crate::SAN;
 use model::chain::CertRow;
@@ -16,8 +17,6 @@ const AKI: u64 = 15;
 const AKI_KEY_ID: u64 = 16;
 
 const SKI: u64 = 19;
-
-const EKU: u64 = 21;
 
 const NC: u64 = 33;
 

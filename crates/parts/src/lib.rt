@@ -7,6 +7,8 @@ pub mod purpose;
 pub mod san;
 
 // The words of a certificate that several rules read.
+const EKU: u64 = 21;
+
 const BC: u64 = 24;
 
 const KU: u64 = 28;

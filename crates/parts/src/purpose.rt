@@ -4,6 +4,7 @@ ghost use Rattle.laws.specs.Lists.{any};
 ghost use Rattle.table.specs.Table.{over};
 ghost use Rattle.model.specs.Decode.{certAt, usageOf, usageAt};
 ghost use Rattle.parts.specs.Purpose.{serves, extendedKeyUsageValid, keyUsageServes, checkPurpose};
+use crate::EKU;
 use crate::KU;
 use crate::KU_BITS;
 use model::chain::CertRow;
@@ -12,8 +13,6 @@ use model::chain::UsageNo;
 use model::chain::cert_range;
 use model::chain::cert_word;
 use table::Range;
-
-const EKU: u64 = 21;
 
 const EKU_USAGES: u32 = 22;
 
