@@ -79,6 +79,16 @@ ROWS = [
         "read": "attributeAt words bytes",
         "uses": ["Rattle.model.specs.Decode.{attributeAt}", "Rattle.names.specs.Names.{rdnHasName, rdnIn}"],
     },
+    {
+        "crate": "parts",
+        "function": "purpose::any_serves",
+        "kind": "any",
+        "parameters": "words s e",
+        "test": "usage_serves",
+        "definition": "serves s",
+        "read": "usageAt words",
+        "uses": ["Rattle.model.specs.Decode.{usageAt}", "Rattle.parts.specs.Purpose.{serves}"],
+    },
 ]
 FOUND = "search needs"
 

@@ -1,0 +1,21 @@
+// Rule 4.
+ghost use mathlib.Core.Path.{_≡_};
+ghost use Rattle.model.specs.Decode.{certAt};
+ghost use Rattle.fields.specs.Uids.{issuerSubjectUidVersion};
+use model::chain::CertRow;
+use model::chain::cert_word;
+
+const VERSION: u64 = 1;
+
+const ISSUER_UID: u64 = 13;
+
+const SUBJECT_UID: u64 = 14;
+
+// Whether a certificate with a UID has a version that allows one.
+pub fn issuer_subject_uid_version(words: &[u64], bytes: &[u8], c: CertRow) -> bool
+    ensures { λ r. ⌜ r ≡ issuerSubjectUidVersion (certAt (now (words .entry)) (now (bytes .entry)) (c .0)) ⌝ }
+{
+    let version = cert_word(words, c, VERSION);
+    let none = (cert_word(words, c, ISSUER_UID) == 0) & (cert_word(words, c, SUBJECT_UID) == 0);
+    none | (version == 2) | (version == 3)
+}

@@ -1,0 +1,21 @@
+// Rule 2.
+ghost use mathlib.Core.Path.{_≡_};
+ghost use Rattle.model.specs.Decode.{certAt, taskOf};
+ghost use Rattle.fields.specs.Validity.{checkCertTime};
+use model::chain::CertRow;
+use model::chain::cert_word;
+
+// The word of the header that holds the time, and the words of a certificate that hold its two dates.
+const NOW: usize = 15;
+
+const NOT_BEFORE: u64 = 5;
+
+const NOT_AFTER: u64 = 6;
+
+// Whether a certificate is in date.
+pub fn check_cert_time(words: &[u64], bytes: &[u8], c: CertRow) -> bool
+    ensures { λ r. ⌜ r ≡ checkCertTime (taskOf (now (words .entry)) (now (bytes .entry))) (certAt (now (words .entry)) (now (bytes .entry)) (c .0)) ⌝ }
+{
+    let now = table::word(words, NOW);
+    (cert_word(words, c, NOT_BEFORE) <= now) & (now <= cert_word(words, c, NOT_AFTER))
+}

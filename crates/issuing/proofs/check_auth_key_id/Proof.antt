@@ -1,0 +1,28 @@
+use mathlib.Core.Path.{_∙_}
+use borrow.Author.Needs.{needs}
+use Rattle.model.proofs.Optional.{absent-passes, present-passes}
+use Rattle.issuing.specs.Issuing.{checkAuthKeyId}
+use Rattle.issuing.proofs.check_auth_key_id.Statement.{statement}
+use Rattle.issuing.proofs.check_auth_key_id.Tie as tie
+
+cert-word-requires : tie.Need-cert-word-requires
+cert-word-requires c κs = search needs
+
+returns : tie.Need-returns
+unfolding checkAuthKeyId
+returns c = absent-passes _ _ _ (cc)
+
+same-key-id-requires : tie.Need-same-key-id-requires
+same-key-id-requires c κs = search needs
+
+same-serial-requires : tie.Need-same-serial-requires
+same-serial-requires c κs = search needs
+
+returns-2 : tie.Need-returns-2
+unfolding checkAuthKeyId
+returns-2 c = present-passes _ _ _ (λ z. (c .before .before .if1 .left) ((c .before .before .before .cert-word .ensures) ∙ z)) (cc)
+
+pub check-auth-key-id-spec : {M : Type 1} → statement M
+check-auth-key-id-spec =
+    tie.close
+    (tie.spec cert-word-requires returns same-key-id-requires same-serial-requires returns-2)

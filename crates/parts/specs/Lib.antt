@@ -1,0 +1,8 @@
+pub mod Ca
+pub mod EmptySubject
+pub mod KeyIds
+pub mod Marks
+pub mod PathLength
+pub mod Purpose
+pub mod SanNames
+pub mod Stated

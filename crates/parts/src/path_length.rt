@@ -1,0 +1,37 @@
+// Rule 10.
+ghost use mathlib.Core.Path.{_≡_};
+ghost use Rattle.model.specs.Decode.{certAt};
+ghost use Rattle.parts.specs.PathLength.{longEnough, pathLengthHolds};
+use crate::BC;
+use model::chain::CertRow;
+use model::chain::cert_word;
+use table::CertPos;
+
+const HAS_LENGTH: u64 = 26;
+
+const LENGTH: u64 = 27;
+
+// Whether a path length is enough at a position. It is never cast: it may lie below zero.
+fn long_enough(i: CertPos, length: i64) -> bool
+    ensures { λ r. ⌜ r ≡ longEnough (i .0) length ⌝ }
+{
+    let at = i.0;
+    if at == 0 {
+        return 0 <= length;
+    }
+    let between = (at - 1) as i64;
+    (0 <= length) & (between <= length)
+}
+
+// Whether the path length of the certificate at a position, if it has one, is enough there.
+pub fn path_length_holds(words: &[u64], bytes: &[u8], i: CertPos, c: CertRow) -> bool
+    ensures { λ r. ⌜ r ≡ pathLengthHolds (i .0) (certAt (now (words .entry)) (now (bytes .entry)) (c .0)) ⌝ }
+{
+    if cert_word(words, c, BC) == 0 {
+        return true;
+    }
+    if cert_word(words, c, HAS_LENGTH) == 0 {
+        return true;
+    }
+    long_enough(i, model::chain::signed(cert_word(words, c, LENGTH)))
+}
