@@ -2,12 +2,12 @@
 use Prim.Native.Nat.{ℕ, zero, suc, _+_, _-_, _*_, _/_, _%_, _^_, _≤_, _<_}
 use native.Mathlib.Omega.{arith}
 use native.Mathlib.Decide.{decLt}
-use mathlib.Core.Path.{_≡_, refl, sym, ap, _∙_}
+use mathlib.Core.Path.{_≡_, refl, sym, _∙_}
 use mathlib.Core.Bool.{Bool, true, false}
 use mathlib.Core.List.{List}
 use mathlib.Core.Option.{none, some}
-use lib.Dec.{eqb, ltb}
-use borrow.Author.Tests.{eqb-false, eq-eqb, lt-ltb, le-ltb}
+use lib.Dec.{eqb}
+use borrow.Author.Tests.{eqb-false, lt-ltb, le-ltb}
 use Rattle.laws.specs.Lists.{pick}
 use Rattle.model.specs.Decode.{unlessZero, markOf, keyOf, flagOf, bitOf, signedOf, extensionsOf, kuAt, certWord}
 use Rattle.decoded.specs.Words.{whether, wherePresent, markWord, keyWord, keyBits, flagWord, signedWord, bitsWord, extensionsWord, said, given}

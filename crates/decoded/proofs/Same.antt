@@ -1,8 +1,8 @@
 -- Equal decoded certificates of sound bundles have equal read words. Assumes nothing.
-use Prim.Native.Nat.{ℕ, _+_, _*_, _^_, _≤_, _<_}
+use Prim.Native.Nat.{ℕ, _+_, _^_, _≤_, _<_}
 use native.Mathlib.Omega.{arith}
 use mathlib.Core.Path.{_≡_, refl, sym, ap, ap₂, _∙_}
-use mathlib.Core.List.{List, [], _∷_}
+use mathlib.Core.List.{List, _∷_}
 use mathlib.Core.Bool.{false, _&&_}
 use Rattle.laws.proofs.Tests.{or-left}
 use Rattle.table.specs.Table.{countOf, fieldOf}

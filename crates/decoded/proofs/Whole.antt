@@ -1,10 +1,9 @@
 -- Decoding a sound bundle cuts nothing off: each string is as long as its row says, each list as long as its count. Assumes nothing.
 use Prim.Native.Nat.{ℕ, zero, suc, _+_, _-_, _*_, _≤_, _<_, min}
 use native.Mathlib.Omega.{arith}
-use mathlib.Core.Path.{_≡_, refl, sym, _∙_}
+use mathlib.Core.Path.{_≡_, refl, _∙_}
 use mathlib.Core.List.{List, [], _∷_, List·Memᴰ, List·Memᴰ·head, List·Memᴰ·tail}
-use mathlib.Core.Bool.{Bool, true, false}
-use lib.Dec.{eqb}
+use mathlib.Core.Bool.{true, false}
 use lib.ListN.{length, getD, drop, length-drop}
 use lib.Seq.{length-take-le}
 use borrow.Author.Tests.{eq-eqb, ne-eqb}
@@ -16,7 +15,7 @@ use Rattle.model.specs.Decode.{rowsIn, rdnRange, rdnAt, kindAt, nameIn, nameRan
 use Rattle.sound.specs.declared.Block.the-variants.{Header}
 use Rattle.sound.specs.declared.Line.{Line}
 use Rattle.sound.specs.declared.Test.the-variants.{NotZero}
-use Rattle.sound.specs.Fault.{Fault, chainLayout, policyLayout, Layout, rowsOf, rowAt}
+use Rattle.sound.specs.Fault.{Fault, chainLayout, policyLayout, rowsOf, rowAt}
 use Rattle.sound.specs.Tables.{line, chainLines, policyLines}
 use Rattle.sound.specs.Wrong.{there, wrong, noRange, stringOut}
 use Rattle.decoded.proofs.Gives.{row-right, part-right, string-lies, range-lies, name-range}

@@ -7,7 +7,7 @@ use lib.Dec.{eqb}
 use lib.IntN.{ℤ, pos, negsuc}
 use lib.ListN.{length}
 use Rattle.laws.specs.Lists.{pick}
-use Rattle.model.specs.Model.{Mark, noMark, notCritical, critical, Key, rsa, dsa, otherKey, Extensions, noExtensions, someExtensions, Aki, Ski, Eku, Bc, Ku, San, Nc, Cert}
+use Rattle.model.specs.Model.{Mark, noMark, notCritical, critical, Key, rsa, dsa, otherKey, Extensions, noExtensions, someExtensions, Ku, Cert}
 
 -- 0 for 0, 1 for any other number
 abbrev pub whether : ℕ → ℕ
