@@ -5,7 +5,7 @@ ghost use Rattle.laws.specs.Lists.{all};
 ghost use Rattle.model.specs.Decode.{attributeAt, rdnAt, nameIn, generalsIn, certAt};
 ghost use Rattle.names.specs.Names.{rdnIn};
 ghost use Rattle.sans.specs.Sans.{checkSanHasDns, ifCommon, eachCommon};
-ghost use Rattle.covering.specs.declared.dns.Covering.the-variants.{Lowered as lowered};
+ghost use Rattle.covering.specs.declared.dns.Covering.the-variants.{Lowered};
 ghost use Rattle.constraints.specs.Keeps.{selfIssued, textPasses, checkCommonNameConstraints, checkNameConstraintsHelper};
 ghost use Rattle.constrained_o.specs.Rule14.{checkNameConstraints};
 use covering::dns::Covering;
@@ -21,13 +21,9 @@ use table::Range;
 fn self_issued(words: &[u64], bytes: &[u8], c: CertRow) -> bool
     ensures { λ r. ⌜ r ≡ selfIssued (certAt (now (words .entry)) (now (bytes .entry)) (c .0)) ⌝ }
 {
-    names::same_dn(
-        words,
-        bytes,
-        Values::Normalised,
-        model::chain::cert_range(words, c, 9, RDNS),
-        model::chain::cert_range(words, c, 7, RDNS),
-    )
+    let subject = model::chain::cert_range(words, c, 9, RDNS);
+    let issuer = model::chain::cert_range(words, c, 7, RDNS);
+    names::same_dn(words, bytes, Values::Normalised, subject, issuer)
 }
 
 // Whether an attribute is no common name, or passes as a DNS name.
@@ -38,7 +34,7 @@ fn common_passes(
     excluded: Range,
     a: AttributeNo,
 ) -> bool
-    ensures { λ r. ⌜ r ≡ ifCommon (textPasses lowered (generalsIn (now (words .entry)) (now (bytes .entry)) permitted) (generalsIn (now (words .entry)) (now (bytes .entry)) excluded)) (attributeAt (now (words .entry)) (now (bytes .entry)) (a .0)) ⌝ }
+    ensures { λ r. ⌜ r ≡ ifCommon (textPasses Lowered (generalsIn (now (words .entry)) (now (bytes .entry)) permitted) (generalsIn (now (words .entry)) (now (bytes .entry)) excluded)) (attributeAt (now (words .entry)) (now (bytes .entry)) (a .0)) ⌝ }
 {
     if sans::is_common(words, bytes, a) {
         return constraints::check_dns_name_constraints(
@@ -55,7 +51,7 @@ fn common_passes(
 
 // Whether each common name of an RDN, as a range of attributes, passes.
 fn attributes_pass(words: &[u64], bytes: &[u8], permitted: Range, excluded: Range, r: Range) -> bool
-    ensures { λ t. ⌜ t ≡ all (ifCommon (textPasses lowered (generalsIn (now (words .entry)) (now (bytes .entry)) permitted) (generalsIn (now (words .entry)) (now (bytes .entry)) excluded))) (rdnIn (now (words .entry)) (now (bytes .entry)) r) ⌝ }
+    ensures { λ t. ⌜ t ≡ all (ifCommon (textPasses Lowered (generalsIn (now (words .entry)) (now (bytes .entry)) permitted) (generalsIn (now (words .entry)) (now (bytes .entry)) excluded))) (rdnIn (now (words .entry)) (now (bytes .entry)) r) ⌝ }
 {
     let e = r.to;
     let mut i = r.from;
@@ -70,7 +66,7 @@ fn attributes_pass(words: &[u64], bytes: &[u8], permitted: Range, excluded: Rang
 }
 
 fn rdn_passes(words: &[u64], bytes: &[u8], permitted: Range, excluded: Range, n: RdnNo) -> bool
-    ensures { λ t. ⌜ t ≡ all (ifCommon (textPasses lowered (generalsIn (now (words .entry)) (now (bytes .entry)) permitted) (generalsIn (now (words .entry)) (now (bytes .entry)) excluded))) (rdnAt (now (words .entry)) (now (bytes .entry)) (n .0)) ⌝ }
+    ensures { λ t. ⌜ t ≡ all (ifCommon (textPasses Lowered (generalsIn (now (words .entry)) (now (bytes .entry)) permitted) (generalsIn (now (words .entry)) (now (bytes .entry)) excluded))) (rdnAt (now (words .entry)) (now (bytes .entry)) (n .0)) ⌝ }
 {
     attributes_pass(
         words,
@@ -83,7 +79,7 @@ fn rdn_passes(words: &[u64], bytes: &[u8], permitted: Range, excluded: Range, n:
 
 // Whether each common name of a distinguished name, as a range of RDNs, passes.
 fn commons_pass(words: &[u64], bytes: &[u8], permitted: Range, excluded: Range, name: Range) -> bool
-    ensures { λ t. ⌜ t ≡ eachCommon (textPasses lowered (generalsIn (now (words .entry)) (now (bytes .entry)) permitted) (generalsIn (now (words .entry)) (now (bytes .entry)) excluded)) (nameIn (now (words .entry)) (now (bytes .entry)) name) ⌝ }
+    ensures { λ t. ⌜ t ≡ eachCommon (textPasses Lowered (generalsIn (now (words .entry)) (now (bytes .entry)) permitted) (generalsIn (now (words .entry)) (now (bytes .entry)) excluded)) (nameIn (now (words .entry)) (now (bytes .entry)) name) ⌝ }
 {
     let e = name.to;
     let mut i = name.from;
@@ -105,7 +101,7 @@ fn check_common_name_constraints(
     excluded: Range,
     c: CertRow,
 ) -> bool
-    ensures { λ r. ⌜ r ≡ checkCommonNameConstraints lowered (generalsIn (now (words .entry)) (now (bytes .entry)) permitted) (generalsIn (now (words .entry)) (now (bytes .entry)) excluded) (certAt (now (words .entry)) (now (bytes .entry)) (c .0)) ⌝ }
+    ensures { λ r. ⌜ r ≡ checkCommonNameConstraints Lowered (generalsIn (now (words .entry)) (now (bytes .entry)) permitted) (generalsIn (now (words .entry)) (now (bytes .entry)) excluded) (certAt (now (words .entry)) (now (bytes .entry)) (c .0)) ⌝ }
 {
     commons_pass(
         words,
@@ -125,7 +121,7 @@ fn leaf_passes(
     c: CertRow,
     leaf: bool,
 ) -> bool
-    ensures { λ r. ⌜ r ≡ (not leaf || (checkSanHasDns (certAt (now (words .entry)) (now (bytes .entry)) (c .0)) || checkCommonNameConstraints lowered (generalsIn (now (words .entry)) (now (bytes .entry)) permitted) (generalsIn (now (words .entry)) (now (bytes .entry)) excluded) (certAt (now (words .entry)) (now (bytes .entry)) (c .0)))) ⌝ }
+    ensures { λ r. ⌜ r ≡ (not leaf || (checkSanHasDns (certAt (now (words .entry)) (now (bytes .entry)) (c .0)) || checkCommonNameConstraints Lowered (generalsIn (now (words .entry)) (now (bytes .entry)) permitted) (generalsIn (now (words .entry)) (now (bytes .entry)) excluded) (certAt (now (words .entry)) (now (bytes .entry)) (c .0)))) ⌝ }
 {
     if !leaf {
         return true;
@@ -145,7 +141,7 @@ fn check_name_constraints_helper(
     c: CertRow,
     leaf: bool,
 ) -> bool
-    ensures { λ r. ⌜ r ≡ checkNameConstraintsHelper lowered (generalsIn (now (words .entry)) (now (bytes .entry)) permitted) (generalsIn (now (words .entry)) (now (bytes .entry)) excluded) leaf (certAt (now (words .entry)) (now (bytes .entry)) (c .0)) ⌝ }
+    ensures { λ r. ⌜ r ≡ checkNameConstraintsHelper Lowered (generalsIn (now (words .entry)) (now (bytes .entry)) permitted) (generalsIn (now (words .entry)) (now (bytes .entry)) excluded) leaf (certAt (now (words .entry)) (now (bytes .entry)) (c .0)) ⌝ }
 {
     if !constraints::check_subject(words, bytes, permitted, excluded, c) {
         return false;

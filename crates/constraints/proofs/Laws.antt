@@ -16,7 +16,6 @@ use Rattle.model.specs.Model.{Bytes, Rdn, Name, GeneralName, dns, directory, ip
 use Rattle.model.specs.Decode.{generalOf}
 use Rattle.sans.specs.Sans.{isKind, dnsAnd}
 use Rattle.sans.specs.declared.Kind.{Kind}
-use Rattle.sans.specs.declared.Kind.the-variants.{Dns}
 use Rattle.covering.specs.Covers.{dnsCovers, overDns}
 use Rattle.covering.specs.declared.dns.Covering.{Covering}
 use Rattle.covering.specs.declared.dns.Covering.the-variants.{Lowered, Cleaned}

@@ -35,7 +35,7 @@ pub fn check_dns_name_constraints(
 }
 
 // Whether a directory name, as a range of RDNs, passes.
-pub fn check_directory_name_constraints(
+fn check_directory_name_constraints(
     words: &[u64],
     bytes: &[u8],
     permitted: Range,
@@ -54,7 +54,7 @@ pub fn check_directory_name_constraints(
 }
 
 // Whether an IP address passes.
-pub fn check_ip_addr_name_constraints(
+fn check_ip_addr_name_constraints(
     words: &[u64],
     bytes: &[u8],
     permitted: Range,
@@ -83,7 +83,7 @@ fn asked_name(v: Covering, name: &[u8]) -> &[u8]
 }
 
 // Whether a name passes. Its text is fetched once, for all constraints.
-pub fn nc_match(
+fn nc_match(
     words: &[u64],
     bytes: &[u8],
     permitted: Range,

@@ -1,9 +1,9 @@
 -- How a DNS constraint covers, and rows that are read where they lie. Assumes nothing.
 use Prim.Native.Nat.{ℕ, _+_, _*_}
 use native.Mathlib.Nat.{add-zero}
-use mathlib.Core.Path.{_≡_, refl, sym, _∙_}
+use mathlib.Core.Path.{_≡_, refl, _∙_}
 use mathlib.Core.List.{List}
-use mathlib.Core.Bool.{Bool, true, false}
+use mathlib.Core.Bool.{Bool, false}
 use borrow.Author.Tests.{eq-eqb, ne-eqb}
 use lib.ListN.{getD}
 use Rattle.text.specs.Texts.{lowered, matchDnsName}

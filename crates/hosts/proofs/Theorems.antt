@@ -3,10 +3,8 @@ use mathlib.Core.Path.{_≡_, refl, sym, _∙_}
 use mathlib.Core.Logic.{_↔_, inl, inr, ⊎-elim}
 use mathlib.Core.Bool.{Bool, true, false, not, _&&_, _||_, false≢true, or-true, or-false}
 use mathlib.Core.Option.{Option, none, some}
-use borrow.Author.Tests.{not-true}
 use Rattle.laws.specs.Lists.{any}
 use Rattle.laws.specs.Optional.{ifThere, thereAnd}
-use Rattle.laws.proofs.Tests.{and-left, and-right}
 use Rattle.text.specs.Texts.{lowered}
 use Rattle.text.proofs.Theorems.{lowered-twice}
 use Rattle.patterns.specs.Patterns.{checkValidPattern}

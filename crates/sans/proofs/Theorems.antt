@@ -1,5 +1,4 @@
 -- What the definitions of this crate mean: the same said with "for every" and "for some". Assumes nothing.
-use Prim.Native.Nat.{ℕ}
 use native.Mathlib.Omega.{arith}
 use mathlib.Core.Path.{_≡_, refl}
 use mathlib.Core.Logic.{_↔_}

@@ -1,6 +1,6 @@
 -- What a certificate is called: names by their kind, the DNS names of its SAN, the common names of its subject. Assumes nothing.
 use Prim.Native.Nat.{ℕ}
-use mathlib.Core.Bool.{Bool, true, false, not, _&&_, _||_}
+use mathlib.Core.Bool.{Bool, false, not, _&&_, _||_}
 use lib.Dec.{eqb}
 use Rattle.laws.specs.Lists.{any, all, eqList}
 use Rattle.laws.specs.Optional.{thereAnd}
