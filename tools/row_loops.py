@@ -13,10 +13,10 @@ Two others compare the rows of two ranges in step, the lengths first:
 
 A row of the table gives the crate, the function (`module::function` where it stands in one), the kind, the parameters and
 locals that the loop still reads (in the prover's order, the bound last), the function that tests a row, that test as a
-definition, how a row's number is read, what the function is to answer (left out where it is just the kind of the test and
-the rows), what has to be seen through to start, and the imports of these. Where calls stand before a loop over one range,
-`before` names them in order, and `asks` says which of them gives what the test requires. The laws are in
-crates/laws/proofs/Loops.antt and Pairs.antt."""
+definition, how a row's number is read, what the function is to answer (of the rows, or of the range that a definition
+takes; left out where it is just the kind of the test and the rows), what has to be seen through to start, and the imports
+of these. Where calls stand before a loop over one range, `before` names them in order, and `asks` says which of them gives
+what the test requires. The laws are in crates/laws/proofs/Loops.antt and Pairs.antt."""
 
 ROWS = [
     {
@@ -89,6 +89,154 @@ ROWS = [
         "read": "usageAt words",
         "uses": ["Rattle.model.specs.Decode.{usageAt}", "Rattle.parts.specs.Purpose.{serves}"],
     },
+    {
+        "crate": "sans",
+        "function": "has_kind",
+        "kind": "any",
+        "parameters": "words bytes k e",
+        "test": "is_kind",
+        "definition": "isKind k",
+        "read": "generalAt words bytes",
+        "answer": "any (isKind k) (generalsIn words bytes {range})",
+        "opens": "generalsIn",
+        "uses": ["Rattle.model.specs.Decode.{generalAt, generalsIn}", "Rattle.sans.specs.Sans.{isKind}"],
+    },
+    {
+        "crate": "covering",
+        "function": "any_directory",
+        "kind": "any",
+        "parameters": "words bytes name e",
+        "test": "directory_over",
+        "definition": "overDirectory (nameIn words bytes name)",
+        "read": "generalAt words bytes",
+        "answer": "any (overDirectory (nameIn words bytes name)) (generalsIn words bytes {range})",
+        "opens": "generalsIn",
+        "uses": ["Rattle.model.specs.Decode.{nameIn, generalAt, generalsIn}", "Rattle.covering.specs.Covers.{overDirectory}"],
+    },
+    {
+        "crate": "covering",
+        "function": "any_ip",
+        "kind": "any",
+        "parameters": "words bytes address e",
+        "test": "ip_over",
+        "definition": "overIp address",
+        "read": "generalAt words bytes",
+        "answer": "any (overIp address) (generalsIn words bytes {range})",
+        "opens": "generalsIn",
+        "uses": ["Rattle.model.specs.Decode.{generalAt, generalsIn}", "Rattle.covering.specs.Covers.{overIp}"],
+    },
+    {
+        "crate": "covering",
+        "function": "dns::any_in",
+        "kind": "any",
+        "parameters": "words bytes at first v name e",
+        "test": "covers_in",
+        "definition": "overDns v name",
+        "read": "generalAt words bytes",
+        "uses": ["Rattle.model.specs.Decode.{generalAt}", "Rattle.covering.specs.Covers.{overDns}"],
+    },
+    {
+        "crate": "covering",
+        "function": "dns::any_slow",
+        "kind": "any",
+        "parameters": "words bytes v name e",
+        "test": "covers",
+        "definition": "overDns v name",
+        "read": "generalAt words bytes",
+        "answer": "any (overDns v name) (generalsIn words bytes {range})",
+        "opens": "generalsIn",
+        "uses": ["Rattle.model.specs.Decode.{generalAt, generalsIn}", "Rattle.covering.specs.Covers.{overDns}"],
+    },
+    {
+        "crate": "constraints",
+        "function": "names_pass",
+        "kind": "all",
+        "parameters": "words bytes permitted excluded v e",
+        "test": "nc_match",
+        "definition": "ncMatch v (generalsIn words bytes permitted) (generalsIn words bytes excluded)",
+        "read": "generalAt words bytes",
+        "answer": "all (ncMatch v (generalsIn words bytes permitted) (generalsIn words bytes excluded)) (generalsIn words bytes {range})",
+        "opens": "generalsIn",
+        "uses": ["Rattle.model.specs.Decode.{generalAt, generalsIn}", "Rattle.constraints.specs.Match.{ncMatch}"],
+    },
+    {
+        "crate": "constrained_o",
+        "function": "attributes_pass",
+        "kind": "all",
+        "parameters": "words bytes permitted excluded e",
+        "test": "common_passes",
+        "definition": "ifCommon (textPasses Lowered (generalsIn words bytes permitted) (generalsIn words bytes excluded))",
+        "read": "attributeAt words bytes",
+        "uses": [
+            "Rattle.model.specs.Decode.{attributeAt, generalsIn}",
+            "Rattle.sans.specs.Sans.{ifCommon}",
+            "Rattle.covering.specs.declared.dns.Covering.the-variants.{Lowered}",
+            "Rattle.constraints.specs.Keeps.{textPasses}",
+        ],
+    },
+    {
+        "crate": "constrained_o",
+        "function": "commons_pass",
+        "kind": "all",
+        "parameters": "words bytes permitted excluded e",
+        "test": "rdn_passes",
+        "definition": "all (ifCommon (textPasses Lowered (generalsIn words bytes permitted) (generalsIn words bytes excluded)))",
+        "read": "rdnAt words bytes",
+        "answer": "eachCommon (textPasses Lowered (generalsIn words bytes permitted) (generalsIn words bytes excluded)) {rows}",
+        "opens": "eachCommon",
+        "uses": [
+            "Rattle.model.specs.Decode.{rdnAt, generalsIn}",
+            "Rattle.sans.specs.Sans.{ifCommon, eachCommon}",
+            "Rattle.covering.specs.declared.dns.Covering.the-variants.{Lowered}",
+            "Rattle.constraints.specs.Keeps.{textPasses}",
+        ],
+    },
+    {
+        "crate": "hosts",
+        "function": "any_dns_names",
+        "kind": "any",
+        "parameters": "words bytes host e",
+        "test": "dns_names",
+        "definition": "dnsAnd (namesHost host)",
+        "read": "generalAt words bytes",
+        "answer": "any (dnsAnd (namesHost host)) (generalsIn words bytes {range})",
+        "opens": "generalsIn",
+        "uses": [
+            "Rattle.model.specs.Decode.{generalAt, generalsIn}",
+            "Rattle.sans.specs.Sans.{dnsAnd}",
+            "Rattle.hosts.specs.Hostname.{namesHost}",
+        ],
+    },
+    {
+        "crate": "hosts",
+        "function": "any_common_names",
+        "kind": "any",
+        "parameters": "words bytes host e",
+        "test": "common_names",
+        "definition": "commonAnd (namesHost host)",
+        "read": "attributeAt words bytes",
+        "uses": [
+            "Rattle.model.specs.Decode.{attributeAt}",
+            "Rattle.sans.specs.Sans.{commonAnd}",
+            "Rattle.hosts.specs.Hostname.{namesHost}",
+        ],
+    },
+    {
+        "crate": "hosts",
+        "function": "any_rdn_names",
+        "kind": "any",
+        "parameters": "words bytes host e",
+        "test": "rdn_names",
+        "definition": "any (commonAnd (namesHost host))",
+        "read": "rdnAt words bytes",
+        "answer": "someCommon (namesHost host) {rows}",
+        "opens": "someCommon",
+        "uses": [
+            "Rattle.model.specs.Decode.{rdnAt}",
+            "Rattle.sans.specs.Sans.{commonAnd, someCommon}",
+            "Rattle.hosts.specs.Hostname.{namesHost}",
+        ],
+    },
 ]
 FOUND = "search needs"
 
@@ -155,7 +303,8 @@ def one_range(row):
     """What a loop over one range is to answer, and what is left of it at i."""
     rest = lambda i: f"(rows ({row['read']}) {i} e)"
     left = f"{row['kind']} ({row['definition']}) {rest('i')}"
-    return row.get("answer", "%s (%s) {rows}" % (row["kind"], row["definition"])).format(rows=rest("i₀")), left
+    answer = row.get("answer", "%s (%s) {rows}" % (row["kind"], row["definition"]))
+    return answer.format(rows=rest("i₀"), range="(record { from = i₀; to = e })"), left
 
 
 def two_ranges(row):

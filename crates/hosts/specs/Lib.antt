@@ -1,0 +1,2 @@
+pub mod Hostname
+pub mod Stated
