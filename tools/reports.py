@@ -3,19 +3,36 @@ report, and the tables by a rule's number.
 
 A crate that judges has these functions under these names. It differs from another in what it lends and in its tables: a row of CRATES."""
 
-# first: the parameters before all others. lent: the slices that the rules read. test, places: the definitions of the two tables. specs: where these
-# stand. arms: for each function that goes by a rule's number the definition that it computes, and the function that each arm calls (None: a value).
+# first: the parameters before all others. lent: the slices that the rules read. test, places: the definitions of the two tables. opens: what has to be seen
+# through to see the test's cases. specs: where these stand. arms: for each function that goes by a rule's number the definition that it computes, and the function that each arm calls (None: a value).
 CRATES = {
-    "trial": {
-        "first": [],
+    "judge": {
+        "first": ["policy"],
         "lent": ["words", "bytes", "pwords", "pbytes"],
-        "test": "broken",
+        "test": "brokenIn",
+        "opens": "broken",
         "places": "placesOf",
-        "specs": "Rattle.trial.specs.Rules",
+        "specs": "Rattle.judge.specs.Rules",
         "arms": {
-            "places_of": ("placesOf", 8 * [None]),
-            "breaks_at": ("brokenAt", ["is_over", "is_past", "is_past", "is_over", "is_over"]),
-            "breaks_between": ("brokenBetween", ["are_equal", "are_equal", "are_past"]),
+            "openssl_places": ("openSslPlaces", 14 * [None]),
+            "holds_at": (
+                "holdsAt",
+                [
+                    "check_cert_time",
+                    "outer_inner_sig_match",
+                    "issuer_subject_uid_version",
+                    "key_usage_non_empty",
+                    "key_holds",
+                    "check_auth_subject_key_id",
+                    "check_purpose",
+                    "check_ca",
+                    "path_length_holds",
+                    "check_san",
+                    "empty_subject_implies_critical_san",
+                    "host_named",
+                ],
+            ),
+            "holds_between": ("holdsBetween", ["likely_issued", "check_name_constraints"]),
         },
     },
 }
@@ -210,7 +227,7 @@ def write_rule(crate):
 
 def breaks(crate, row):
     """Whether a rule is broken at a spot: nowhere, at one certificate, between two."""
-    test = row["test"]
+    test = row["opens"]
     needs = ["enum-told", "enum-known-spot", "breaks-at-requires", "enum-known-spot-2", "breaks-between-requires"]
     answers = {
         **{need: "search needs" for need in needs},

@@ -1,0 +1,6 @@
+pub mod Demands
+pub mod Entries
+pub mod Laws
+pub mod Obeying
+pub mod Places
+pub mod ShutOut

@@ -1,0 +1,35 @@
+-- Each arm is a line of the table. Written by tools/reports.py. Assumes nothing.
+use mathlib.Core.Path.{refl}
+use borrow.Author.Needs.{needs}
+use Rattle.faults.specs.Places.{when}
+use Rattle.faults.proofs.Laws.{other}
+use Rattle.judge.specs.Rules.{holdsBetween}
+use Rattle.judge.proofs.holds_between.Statement.{statement}
+use Rattle.judge.proofs.holds_between.Tie as tie
+
+likely-issued-requires : tie.Need-likely-issued-requires
+likely-issued-requires c κs = search needs
+
+check-name-constraints-requires : tie.Need-check-name-constraints-requires
+check-name-constraints-requires c κs = search needs
+
+returns : tie.Need-returns
+unfolding holdsBetween when
+returns c = rw (c .before .match .keys1) (c .likely-issued .ensures)
+
+returns-2 : tie.Need-returns-2
+unfolding holdsBetween when
+returns-2 c = rw (c .before .match .keys2) (c .check-name-constraints .ensures)
+
+returns-3 : tie.Need-returns-3
+unfolding holdsBetween
+returns-3 c =
+    let n = c .match .rest in
+    other _ _ (n .0 .1) (
+    other _ _ (n .1) (
+    refl))
+
+pub holds-between-spec : {M : Type 1} → statement M
+holds-between-spec =
+    tie.close
+    (tie.spec likely-issued-requires check-name-constraints-requires returns returns-2 returns-3)

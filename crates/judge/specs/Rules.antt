@@ -1,0 +1,128 @@
+-- The rules by their numbers, and where each is asked: a line a rule (document 01, "The rules"). Assumes nothing.
+use Prim.Native.Nat.{ℕ, _+_}
+use mathlib.Core.List.{List, []}
+use mathlib.Core.Bool.{Bool, true, false, not}
+use lib.Dec.{eqb}
+use Rattle.model.specs.Model.{Cert, Task, Chain, Lists}
+use Rattle.model.specs.Decode.{chainOf, listsOf}
+use Rattle.faults.specs.Places.{when}
+use Rattle.faults.specs.declared.Spot.{Spot}
+use Rattle.faults.specs.declared.Spot.the-variants.{Nothing, Certificate, Pair}
+use Rattle.faults.specs.declared.Places.{Places}
+use Rattle.faults.specs.declared.Places.the-variants.{Nowhere, Leaf, Each, Neighbours, Pairs}
+use Rattle.fields.specs.Validity.{checkCertTime}
+use Rattle.fields.specs.Signatures.{outerInnerSigMatch}
+use Rattle.fields.specs.Uids.{issuerSubjectUidVersion}
+use Rattle.fields.specs.KeyUsage.{keyUsageNonEmpty}
+use Rattle.fields.specs.KeyLevel.{checkCertKeyLevel}
+use Rattle.parts.specs.KeyIds.{checkAuthSubjectKeyId}
+use Rattle.parts.specs.Purpose.{checkPurpose}
+use Rattle.parts.specs.Ca.{checkCa}
+use Rattle.parts.specs.PathLength.{pathLengthHolds}
+use Rattle.parts.specs.SanNames.{checkSan}
+use Rattle.parts.specs.EmptySubject.{emptySubjectImpliesCriticalSan}
+use Rattle.issuing.specs.Issuing.{likelyIssued}
+use Rattle.constrained_o.specs.Rule14.{checkNameConstraints}
+use Rattle.hosts.specs.Hostname.{hostNamed}
+use Rattle.judge.specs.declared.Policy.{Policy}
+use Rattle.judge.specs.declared.Policy.the-variants.{OpenSsl}
+
+-- what a policy without lists lends
+abbrev pub noLists : Lists
+noLists = listsOf [] []
+
+-- ---- what a policy asks
+-- the least bits of an RSA key
+abbrev pub leastBits : ℕ
+leastBits = 1024
+
+-- whether DSA keys are allowed
+abbrev pub dsaAllowed : Policy → Bool
+dsaAllowed OpenSsl = true
+
+-- ---- the rules
+-- rule r holds of one certificate: t is the task, i the certificate's position, `root` whether it is the last
+unfoldable pub holdsAt : Policy → Task → ℕ → ℕ → Bool → Cert → Bool
+holdsAt p t r i root c =
+    when r 2 (checkCertTime t c) (
+    when r 3 (outerInnerSigMatch c) (
+    when r 4 (issuerSubjectUidVersion c) (
+    when r 5 (keyUsageNonEmpty c) (
+    when r 6 (checkCertKeyLevel leastBits (dsaAllowed p) c) (
+    when r 7 (checkAuthSubjectKeyId root (eqb i 0) c) (
+    when r 8 (checkPurpose (eqb i 0) c) (
+    when r 9 (checkCa c) (
+    when r 10 (pathLengthHolds i c) (
+    when r 11 (checkSan c) (
+    when r 12 (emptySubjectImpliesCriticalSan c) (
+    when r 15 (hostNamed t c) (
+    true))))))))))))
+
+-- rule r holds of two certificates, c at the first position of the pair and d at the second, j
+unfoldable pub holdsBetween : Policy → ℕ → ℕ → Cert → Cert → Bool
+holdsBetween p r j c d =
+    when r 13 (likelyIssued d c) (
+    when r 14 (checkNameConstraints (eqb j 0) c d) (
+    true))
+
+-- certificate i is the root
+abbrev pub isRoot : Chain → ℕ → Bool
+isRoot c i = eqb (i + 1) (c .count)
+
+-- rule r is broken at certificate i, and between i and j
+unfoldable pub brokenAt : Policy → Chain → ℕ → ℕ → Bool
+brokenAt p c r i = not (holdsAt p (c .task) r i (isRoot c i) (c .cert i))
+
+unfoldable pub brokenBetween : Policy → Chain → ℕ → ℕ → ℕ → Bool
+brokenBetween p c r i j = not (holdsBetween p r j (c .cert i) (c .cert j))
+
+-- rule r is broken at a spot of the chain; l are the policy's lists
+unfoldable pub broken : Policy → Chain → Lists → ℕ → Spot → Bool
+broken p c l r Nothing = false
+broken p c l r (Certificate i) = brokenAt p c r (i .0)
+broken p c l r (Pair i j) = brokenBetween p c r (i .0) (j .0)
+
+-- the same of the chain and the lists that two bundles hold
+abbrev pub brokenIn : Policy → List ℕ → List ℕ → List ℕ → List ℕ → ℕ → Spot → Bool
+brokenIn p w b pw pb = broken p (chainOf w b) (listsOf pw pb)
+
+-- ---- where each rule is asked; a rule that a policy doesn't have is asked nowhere
+-- every certificate; every one but the leaf
+abbrev pub everywhere : Places
+everywhere = Each (record { 0 = 0 }) 0
+
+abbrev pub aboveLeaf : Places
+aboveLeaf = Each (record { 0 = 1 }) 0
+
+-- every pair of a certificate with one below it
+abbrev pub pairsAboveLeaf : Places
+pairsAboveLeaf = Pairs (record { 0 = 1 }) 0
+
+unfoldable pub openSslPlaces : ℕ → Places
+openSslPlaces r =
+    when r 2 everywhere (
+    when r 3 everywhere (
+    when r 4 everywhere (
+    when r 5 everywhere (
+    when r 6 everywhere (
+    when r 7 everywhere (
+    when r 8 everywhere (
+    when r 9 aboveLeaf (
+    when r 10 everywhere (
+    when r 11 everywhere (
+    when r 12 Leaf (
+    when r 13 Neighbours (
+    when r 14 pairsAboveLeaf (
+    when r 15 Leaf (
+    Nowhere))))))))))))))
+
+unfoldable pub placesOf : Policy → ℕ → Places
+placesOf OpenSsl r = openSslPlaces r
+
+-- the numbers of all rules are below it
+abbrev pub rules : ℕ
+rules = 21
+
+-- the rule that a chain is long enough
+abbrev pub short : ℕ
+short = 1

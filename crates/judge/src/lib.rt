@@ -1,0 +1,510 @@
+// The judge: the rules by number, where each is asked, the report, and the answer.
+ghost use mathlib.Core.Path.{_≡_};
+ghost use Prim.Native.Nat.{_+_, _-_, _<_};
+ghost use Rattle.table.specs.Table.{countOf};
+ghost use Rattle.model.specs.Sections.{certs};
+ghost use Rattle.model.specs.Decode.{taskOf, certAt, chainOf, listsOf};
+ghost use Rattle.fields.specs.KeyLevel.{checkCertKeyLevel};
+ghost use Rattle.faults.specs.Report.{Wrote};
+ghost use Rattle.faults.specs.Order.{Reported};
+ghost use Rattle.faults.specs.Index.{asked, each, neighbours, row, pairs, entriesAt, index};
+ghost use Rattle.judge.specs.Rules.{leastBits, dsaAllowed, holdsAt, holdsBetween, isRoot, brokenAt, brokenBetween, brokenIn, openSslPlaces, placesOf, rules, short};
+ghost use Rattle.judge.specs.Judged.{placeOf, answerOf, Judging, OpenSslJudged};
+use faults::Entry;
+use faults::FEWEST;
+use faults::First;
+use faults::NONE_YET;
+use faults::Places;
+use faults::Spot;
+use faults::Tally;
+use model::chain::CERTS;
+use model::chain::CertRow;
+use model::chain::row_of;
+use sound::Bundle;
+use sound::Checked;
+use sound::Place;
+use table::CertPos;
+use table::RuleNo;
+
+// The rule that a chain is long enough.
+const SHORT: RuleNo = RuleNo(1);
+
+// The numbers of all rules are below it.
+const RULES: u32 = 21;
+
+// The least bits of an RSA key.
+const LEAST_BITS: u64 = 1024;
+
+// Where a rule is asked of every certificate, and of every one above the leaf.
+const EVERYWHERE: Places = Places::Each(CertPos(0), 0);
+
+const ABOVE_LEAF: Places = Places::Each(CertPos(1), 0);
+
+// Where a rule is asked of every pair of a certificate with one below it.
+const PAIRS_ABOVE_LEAF: Places = Places::Pairs(CertPos(1), 0);
+
+// Whose rules are asked.
+pub enum Policy {
+    OpenSsl,
+}
+
+// What the judge says. Every answer holds its place. A broken rule comes with the total of entries and how many of them were written, a refusal with the bundle.
+pub enum Answer {
+    Accepted(Place),
+    Broken(RuleNo, Place, usize, usize),
+    Refused(u64, Bundle, Place),
+}
+
+// ---- the tables
+
+fn dsa_allowed(policy: Policy) -> bool
+    ensures { λ r. ⌜ r ≡ dsaAllowed policy ⌝ }
+{
+    match policy {
+        Policy::OpenSsl => true,
+    }
+}
+
+fn is_root(words: &[u64], bytes: &[u8], i: CertPos) -> bool
+    ensures { λ r. ⌜ r ≡ isRoot (chainOf (now (words .entry)) (now (bytes .entry))) (i .0) ⌝ }
+{
+    i.0 as u64 + 1 == table::count(words, CERTS)
+}
+
+// Rule 6.
+fn key_holds(policy: Policy, words: &[u64], bytes: &[u8], c: CertRow) -> bool
+    ensures { λ r. ⌜ r ≡ checkCertKeyLevel leastBits (dsaAllowed policy) (certAt (now (words .entry)) (now (bytes .entry)) (c .0)) ⌝ }
+{
+    let dsa = dsa_allowed(policy);
+    fields::key_level::check_cert_key_level(words, bytes, LEAST_BITS, dsa, c)
+}
+
+// The rules that are asked of one certificate: c is its row.
+fn holds_at(
+    policy: Policy,
+    rule: RuleNo,
+    i: CertPos,
+    root: bool,
+    c: CertRow,
+    words: &[u64],
+    bytes: &[u8],
+) -> bool
+    ensures { λ r. ⌜ r ≡ holdsAt policy (taskOf (now (words .entry)) (now (bytes .entry))) (rule .0) (i .0) root (certAt (now (words .entry)) (now (bytes .entry)) (c .0)) ⌝ }
+{
+    let leaf = i.0 == 0;
+    let n = rule.0;
+    match n {
+        2 => fields::validity::check_cert_time(words, bytes, c),
+        3 => fields::signatures::outer_inner_sig_match(words, bytes, c),
+        4 => fields::uids::issuer_subject_uid_version(words, bytes, c),
+        5 => fields::key_usage::key_usage_non_empty(words, bytes, c),
+        6 => key_holds(policy, words, bytes, c),
+        7 => parts::key_ids::check_auth_subject_key_id(words, bytes, root, leaf, c),
+        8 => parts::purpose::check_purpose(words, bytes, leaf, c),
+        9 => parts::ca::check_ca(words, bytes, c),
+        10 => parts::path_length::path_length_holds(words, bytes, i, c),
+        11 => parts::san::check_san(words, bytes, c),
+        12 => parts::empty_subject::empty_subject_implies_critical_san(words, bytes, c),
+        15 => hosts::host_named(words, bytes, c),
+        _ => true,
+    }
+}
+
+// The rules that are asked of two: c is the row of the pair's first certificate, d that of its second, j.
+fn holds_between(
+    policy: Policy,
+    rule: RuleNo,
+    j: CertPos,
+    c: CertRow,
+    d: CertRow,
+    words: &[u64],
+    bytes: &[u8],
+) -> bool
+    ensures { λ r. ⌜ r ≡ holdsBetween policy (rule .0) (j .0) (certAt (now (words .entry)) (now (bytes .entry)) (c .0)) (certAt (now (words .entry)) (now (bytes .entry)) (d .0)) ⌝ }
+{
+    let leaf = j.0 == 0;
+    let n = rule.0;
+    match n {
+        13 => issuing::likely_issued(words, bytes, d, c),
+        14 => constrained_o::check_name_constraints(words, bytes, c, d, leaf),
+        _ => true,
+    }
+}
+
+// Whether a rule is broken at a certificate.
+fn breaks_at(policy: Policy, rule: RuleNo, i: CertPos, words: &[u64], bytes: &[u8]) -> bool
+    ensures { λ r. ⌜ r ≡ brokenAt policy (chainOf (now (words .entry)) (now (bytes .entry))) (rule .0) (i .0) ⌝ }
+{
+    let root = is_root(words, bytes, i);
+    !holds_at(policy, rule, i, root, row_of(i), words, bytes)
+}
+
+// Whether a rule is broken between two.
+fn breaks_between(
+    policy: Policy,
+    rule: RuleNo,
+    i: CertPos,
+    j: CertPos,
+    words: &[u64],
+    bytes: &[u8],
+) -> bool
+    ensures { λ r. ⌜ r ≡ brokenBetween policy (chainOf (now (words .entry)) (now (bytes .entry))) (rule .0) (i .0) (j .0) ⌝ }
+{
+    !holds_between(policy, rule, j, row_of(i), row_of(j), words, bytes)
+}
+
+// Whether a rule is broken at a spot.
+fn breaks(
+    policy: Policy,
+    rule: RuleNo,
+    spot: Spot,
+    words: &[u64],
+    bytes: &[u8],
+    pwords: &[u64],
+    pbytes: &[u8],
+) -> bool
+    ensures { λ r. ⌜ r ≡ brokenIn policy (now (words .entry)) (now (bytes .entry)) (now (pwords .entry)) (now (pbytes .entry)) (rule .0) spot ⌝ }
+{
+    match spot {
+        Spot::Nothing => false,
+        Spot::Certificate(i) => breaks_at(policy, rule, i, words, bytes),
+        Spot::Pair(i, j) => breaks_between(policy, rule, i, j, words, bytes),
+    }
+}
+
+// Where OpenSSL asks a rule.
+fn openssl_places(rule: RuleNo) -> Places
+    ensures { λ r. ⌜ r ≡ openSslPlaces (rule .0) ⌝ }
+{
+    let n = rule.0;
+    match n {
+        2 => EVERYWHERE,
+        3 => EVERYWHERE,
+        4 => EVERYWHERE,
+        5 => EVERYWHERE,
+        6 => EVERYWHERE,
+        7 => EVERYWHERE,
+        8 => EVERYWHERE,
+        9 => ABOVE_LEAF,
+        10 => EVERYWHERE,
+        11 => EVERYWHERE,
+        12 => Places::Leaf,
+        13 => Places::Neighbours,
+        14 => PAIRS_ABOVE_LEAF,
+        15 => Places::Leaf,
+        _ => Places::Nowhere,
+    }
+}
+
+// Where a policy asks a rule.
+fn places_of(policy: Policy, rule: RuleNo) -> Places
+    ensures { λ r. ⌜ r ≡ placesOf policy (rule .0) ⌝ }
+{
+    match policy {
+        Policy::OpenSsl => openssl_places(rule),
+    }
+}
+
+// ---- the writers
+
+// What a rule owes at one spot.
+fn write_one(
+    policy: Policy,
+    rule: RuleNo,
+    spot: Spot,
+    words: &[u64],
+    bytes: &[u8],
+    pwords: &[u64],
+    pbytes: &[u8],
+    report: &mut [u32],
+) -> Tally
+    ensures { λ t. ⌜ Wrote (asked (brokenIn policy (now (words .entry)) (now (bytes .entry)) (now (pwords .entry)) (now (pbytes .entry))) (rule .0) spot) (now (report .entry)) (now (report .exit)) t ⌝ }
+{
+    let broken = breaks(policy, rule, spot, words, bytes, pwords, pbytes);
+    faults::put(broken, Entry { rule, spot }, report)
+}
+
+// At each certificate from one up to, and without, another.
+fn write_each(
+    policy: Policy,
+    rule: RuleNo,
+    from: CertPos,
+    to: u32,
+    words: &[u64],
+    bytes: &[u8],
+    pwords: &[u64],
+    pbytes: &[u8],
+    report: &mut [u32],
+) -> Tally
+    ensures { λ t. ⌜ Wrote (each (brokenIn policy (now (words .entry)) (now (bytes .entry)) (now (pwords .entry)) (now (pbytes .entry))) (rule .0) (from .0) (to - from .0)) (now (report .entry)) (now (report .exit)) t ⌝ }
+{
+    let mut tally = NONE_YET;
+    let mut i = from.0;
+    while i < to {
+        let at = 3 * tally.written;
+        let t = write_one(
+            policy,
+            rule,
+            Spot::Certificate(CertPos(i)),
+            words,
+            bytes,
+            pwords,
+            pbytes,
+            &mut report[at..],
+        );
+        tally = faults::joined(tally, t);
+        i += 1;
+    }
+    tally
+}
+
+// At each pair of neighbours.
+fn write_neighbours(
+    policy: Policy,
+    rule: RuleNo,
+    to: u32,
+    words: &[u64],
+    bytes: &[u8],
+    pwords: &[u64],
+    pbytes: &[u8],
+    report: &mut [u32],
+) -> Tally
+    ensures { λ t. ⌜ Wrote (neighbours (brokenIn policy (now (words .entry)) (now (bytes .entry)) (now (pwords .entry)) (now (pbytes .entry))) (rule .0) to) (now (report .entry)) (now (report .exit)) t ⌝ }
+{
+    let mut tally = NONE_YET;
+    let mut i: u32 = 0;
+    while i < to {
+        let at = 3 * tally.written;
+        let next = i + 1;
+        let t = write_one(
+            policy,
+            rule,
+            Spot::Pair(CertPos(i), CertPos(next)),
+            words,
+            bytes,
+            pwords,
+            pbytes,
+            &mut report[at..],
+        );
+        tally = faults::joined(tally, t);
+        i = next;
+    }
+    tally
+}
+
+// At each pair of one certificate and another below it.
+fn write_row(
+    policy: Policy,
+    rule: RuleNo,
+    i: CertPos,
+    words: &[u64],
+    bytes: &[u8],
+    pwords: &[u64],
+    pbytes: &[u8],
+    report: &mut [u32],
+) -> Tally
+    ensures { λ t. ⌜ Wrote (row (brokenIn policy (now (words .entry)) (now (bytes .entry)) (now (pwords .entry)) (now (pbytes .entry))) (rule .0) (i .0) (i .0)) (now (report .entry)) (now (report .exit)) t ⌝ }
+{
+    let to = i.0;
+    let mut tally = NONE_YET;
+    let mut j: u32 = 0;
+    while j < to {
+        let at = 3 * tally.written;
+        let t = write_one(
+            policy,
+            rule,
+            Spot::Pair(i, CertPos(j)),
+            words,
+            bytes,
+            pwords,
+            pbytes,
+            &mut report[at..],
+        );
+        tally = faults::joined(tally, t);
+        j += 1;
+    }
+    tally
+}
+
+// At each pair, the first from one certificate up to, and without, another.
+fn write_pairs(
+    policy: Policy,
+    rule: RuleNo,
+    from: CertPos,
+    to: u32,
+    words: &[u64],
+    bytes: &[u8],
+    pwords: &[u64],
+    pbytes: &[u8],
+    report: &mut [u32],
+) -> Tally
+    ensures { λ t. ⌜ Wrote (pairs (brokenIn policy (now (words .entry)) (now (bytes .entry)) (now (pwords .entry)) (now (pbytes .entry))) (rule .0) (from .0) (to - from .0)) (now (report .entry)) (now (report .exit)) t ⌝ }
+{
+    let mut tally = NONE_YET;
+    let mut i = from.0;
+    while i < to {
+        let at = 3 * tally.written;
+        let t = write_row(
+            policy,
+            rule,
+            CertPos(i),
+            words,
+            bytes,
+            pwords,
+            pbytes,
+            &mut report[at..],
+        );
+        tally = faults::joined(tally, t);
+        i += 1;
+    }
+    tally
+}
+
+// One rule, wherever it is asked of n certificates.
+fn write_rule(
+    policy: Policy,
+    rule: RuleNo,
+    n: u32,
+    words: &[u64],
+    bytes: &[u8],
+    pwords: &[u64],
+    pbytes: &[u8],
+    report: &mut [u32],
+) -> Tally
+    ensures { λ t. ⌜ Wrote (entriesAt (brokenIn policy (now (words .entry)) (now (bytes .entry)) (now (pwords .entry)) (now (pbytes .entry))) (placesOf policy (rule .0)) (rule .0) n) (now (report .entry)) (now (report .exit)) t ⌝ }
+{
+    let places = places_of(policy, rule);
+    let last = faults::without(n, 1);
+    let leaf = Spot::Certificate(CertPos(0));
+    let root = Spot::Certificate(CertPos(last));
+    let ends = Spot::Pair(CertPos(0), CertPos(last));
+    match places {
+        Places::Nowhere => NONE_YET,
+        Places::Leaf => write_one(policy, rule, leaf, words, bytes, pwords, pbytes, report),
+        Places::Root => write_one(policy, rule, root, words, bytes, pwords, pbytes, report),
+        Places::LeafAndRoot => write_one(policy, rule, ends, words, bytes, pwords, pbytes, report),
+        Places::Each(from, before) => {
+            let to = faults::without(n, before);
+            write_each(policy, rule, from, to, words, bytes, pwords, pbytes, report)
+        }
+        Places::Neighbours => {
+            write_neighbours(policy, rule, last, words, bytes, pwords, pbytes, report)
+        }
+        Places::Pairs(from, before) => {
+            let to = faults::without(n, before);
+            write_pairs(policy, rule, from, to, words, bytes, pwords, pbytes, report)
+        }
+    }
+}
+
+// All rules, in order.
+fn write_rules(
+    policy: Policy,
+    n: u32,
+    words: &[u64],
+    bytes: &[u8],
+    pwords: &[u64],
+    pbytes: &[u8],
+    report: &mut [u32],
+) -> Tally
+    ensures { λ t. ⌜ Wrote (index (brokenIn policy (now (words .entry)) (now (bytes .entry)) (now (pwords .entry)) (now (pbytes .entry))) (placesOf policy) n rules) (now (report .entry)) (now (report .exit)) t ⌝ }
+{
+    let mut tally = NONE_YET;
+    let mut r: u32 = 0;
+    while r < RULES {
+        let at = 3 * tally.written;
+        let t = write_rule(
+            policy,
+            RuleNo(r),
+            n,
+            words,
+            bytes,
+            pwords,
+            pbytes,
+            &mut report[at..],
+        );
+        tally = faults::joined(tally, t);
+        r += 1;
+    }
+    tally
+}
+
+// The whole report of n certificates.
+fn write_report(
+    policy: Policy,
+    n: u32,
+    words: &[u64],
+    bytes: &[u8],
+    pwords: &[u64],
+    pbytes: &[u8],
+    report: &mut [u32],
+) -> Tally
+    ensures { λ t. ⌜ Reported short (brokenIn policy (now (words .entry)) (now (bytes .entry)) (now (pwords .entry)) (now (pbytes .entry))) (placesOf policy) n (now (report .entry)) (now (report .exit)) t ⌝ }
+{
+    if n < FEWEST {
+        return faults::put_short(SHORT, report);
+    }
+    write_rules(policy, n, words, bytes, pwords, pbytes, report)
+}
+
+// ---- the answer
+
+fn place_of(spot: Spot) -> Place
+    ensures { λ r. ⌜ r ≡ placeOf spot ⌝ }
+{
+    match spot {
+        Spot::Nothing => Place::Nothing,
+        Spot::Certificate(i) => Place::Certificate(i),
+        Spot::Pair(i, j) => Place::Pair(i, j),
+    }
+}
+
+// What is said of the report that was written.
+fn answer_of(t: Tally) -> Answer
+    ensures { λ a. ⌜ a ≡ answerOf t ⌝ }
+{
+    let first = t.first;
+    match first {
+        First::Clear => Answer::Accepted(Place::Nothing),
+        First::Broken(e) => {
+            let rule = e.rule;
+            let spot = e.spot;
+            Answer::Broken(rule, place_of(spot), t.total, t.written)
+        }
+    }
+}
+
+// The judgement of sound bundles, whose certificates can be counted in 32 bits.
+fn judge_sound(
+    policy: Policy,
+    words: &[u64],
+    bytes: &[u8],
+    pwords: &[u64],
+    pbytes: &[u8],
+    report: &mut [u32],
+) -> Answer
+    requires { ⌜ countOf (now words) certs < 4294967296 ⌝ }
+    ensures { λ a. ⌜ Judging policy (chainOf (now (words .entry)) (now (bytes .entry))) (listsOf (now (pwords .entry)) (now (pbytes .entry))) (now (report .entry)) (now (report .exit)) a ⌝ }
+{
+    let n = table::count(words, CERTS) as u32;
+    let t = write_report(policy, n, words, bytes, pwords, pbytes, report);
+    answer_of(t)
+}
+
+// Judges a chain as an OpenSSL client would. A bundle that is not sound is refused, and the report stays as it was.
+pub fn openssl(words: &[u64], bytes: &[u8], report: &mut [u32]) -> Answer
+    ensures { λ a. ⌜ OpenSslJudged (now (words .entry)) (now (bytes .entry)) (now (report .entry)) (now (report .exit)) a ⌝ }
+{
+    let checked = sound::check_chain(words, bytes);
+    match checked {
+        Checked::Sound => judge_sound(
+            Policy::OpenSsl,
+            words,
+            bytes,
+            &words[..0],
+            &bytes[..0],
+            report,
+        ),
+        Checked::Refused(n, bundle, place) => Answer::Refused(n, bundle, place),
+    }
+}
