@@ -15,9 +15,8 @@ A row of the table gives the crate, the function (`module::function` where it st
 locals that the loop still reads (in the prover's order, the bound last), the function that tests a row, that test as a
 definition, how a row's number is read, what the function is to answer (of the rows, or of the range that a definition
 takes; left out where it is just the kind of the test and the rows), what has to be seen through to start, and the imports
-of these. Where calls stand before a loop over one range,
-`before` names them in order, and `asks` says which of them gives what the test requires. The laws are in
-crates/laws/proofs/Loops.antt and Pairs.antt."""
+of these. Where calls stand before a loop over one range, `before` names them in order, and `asks` says which of them gives
+what the test requires. The laws are in crates/laws/proofs/Loops.antt and Pairs.antt."""
 
 ROWS = [
     {
