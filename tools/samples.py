@@ -26,7 +26,7 @@ FROM, NOW, UNTIL = 1_600_000_000, 1_610_000_000, 1_630_000_000
 
 
 class Cert(NamedTuple):
-    """What the certificates of the samples differ in. Its name is its common name, its key id, its serial and its fingerprint."""
+    """What the certificates of the samples differ in. Key id, serial and fingerprint are made from the name."""
 
     name: bytes
     issuer: bytes
@@ -132,7 +132,7 @@ def serial_out():
 
 
 class Sample(NamedTuple):
-    """A bundle, the eight words of its answer, and the words of its report."""
+    """A bundle, the eight words of its answer where the whole report has room, and the words of that report."""
 
     name: str
     bundle: Bundle
