@@ -1,0 +1,21 @@
+//! Every mutant is told from the plain judge: if one isn't, the generator is at fault.
+#![cfg(feature = "mutants")]
+
+use compare::judge::{all_mutants, plain};
+use compare::{differing_cases, CASES, SEED};
+
+#[test]
+fn every_mutant_is_noticed() {
+    std::panic::set_hook(Box::new(|_| {}));
+    let mutants = all_mutants();
+    let counts = differing_cases(&plain(), &mutants, SEED, CASES);
+    let _ = std::panic::take_hook();
+    let mut missed = Vec::new();
+    for (mutant, count) in mutants.iter().zip(counts) {
+        println!("{count:>6} {}", mutant.name);
+        if count == 0 {
+            missed.push(&mutant.name);
+        }
+    }
+    assert!(mutants.len() >= 60 && missed.is_empty(), "of {} not noticed: {missed:#?}", mutants.len());
+}
