@@ -19,18 +19,15 @@ trap 'rm -rf "$room"' EXIT
 
 # a kit like the installed one, but its clang also keeps the module that it is given
 mkdir -p "$room/kit/on/$machine/toolchain/bin"
-for part in "$kit"/*; do
-    [ "${part##*/}" = on ] || ln -s "$part" "$room/kit/"
-done
-for part in "$kit/on/$machine"/*; do
-    [ "${part##*/}" = toolchain ] || ln -s "$part" "$room/kit/on/$machine/"
-done
-for part in "$tools"/*; do
-    [ "${part##*/}" = bin ] || ln -s "$part" "$room/kit/on/$machine/toolchain/"
-done
-for part in "$tools/bin"/*; do
-    [ "${part##*/}" = clang ] || ln -s "$part" "$room/kit/on/$machine/toolchain/bin/"
-done
+like() { # FROM TO BUT: what stands in FROM is linked in TO, but for one name
+    for part in "$1"/*; do
+        [ "${part##*/}" = "$3" ] || ln -s "$part" "$2/"
+    done
+}
+like "$kit" "$room/kit" on
+like "$kit/on/$machine" "$room/kit/on/$machine" toolchain
+like "$tools" "$room/kit/on/$machine/toolchain" bin
+like "$tools/bin" "$room/kit/on/$machine/toolchain/bin" clang
 cat >"$room/kit/on/$machine/toolchain/bin/clang" <<END
 #!/bin/sh
 cp module.bc "$room/module.bc"
