@@ -1,7 +1,7 @@
 -- Where the entries of each of OpenSSL's rules stand, and that no rule besides has any. Assumes nothing.
 use Prim.Native.Nat.{ℕ, _+_, _≤_, _<_}
 use mathlib.Core.Path.{_≡_, refl}
-use mathlib.Core.Logic.{_↔_}
+use mathlib.Core.Logic.{_⊎_, _↔_}
 use mathlib.Core.List.{List}
 use mathlib.Core.Bool.{Bool, true, not}
 use lib.Dec.{eqb}
@@ -27,11 +27,11 @@ use Rattle.faults.specs.Report.{entry, certificate, pair}
 use Rattle.faults.specs.declared.Entry.{Entry}
 use Rattle.faults.specs.declared.Spot.{Spot}
 use Rattle.faults.specs.declared.Places.{Places}
-use Rattle.faults.proofs.Standing.{leaf-entries, each-entries, neighbours-entries, pairs-entries}
+use Rattle.faults.proofs.Standing.{nowhere-entries, leaf-entries, each-entries, neighbours-entries, pairs-entries}
 use Rattle.faults.proofs.Theorems.{only}
 use Rattle.judge.specs.Rules.{broken, brokenAt, brokenBetween, holdsAt, holdsBetween, isRoot, placesOf, openSslPlaces, rules, short}
 use Rattle.judge.specs.declared.Policy.the-variants.{OpenSsl}
-use Rattle.judge.proofs.Laws.{no-more}
+use Rattle.judge.proofs.Laws.{no-places, no-more}
 
 module _ (c : Chain) (l : Lists) where
   abbrev n : ℕ
@@ -111,3 +111,8 @@ module _ (c : Chain) (l : Lists) where
     pub of-15 : Stands 15 ↔ ((s ≡ certificate 0) × (not (hostNamed (c .task) (c .cert 0)) ≡ true))
     unfolding placesOf openSslPlaces when broken brokenAt brokenBetween holdsAt holdsBetween
     of-15 = leaf-entries short T P rules n (no-more OpenSsl) enough 15 refl s
+
+    -- no rule besides has an entry
+    pub of-others : (r : ℕ) → (r < 2) ⊎ (15 < r) → Stands r → ⊥
+    unfolding placesOf
+    of-others r h = nowhere-entries short T P rules n (no-more OpenSsl) enough r (no-places r h) s
