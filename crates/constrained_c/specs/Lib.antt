@@ -1,0 +1,2 @@
+pub mod Rule14
+pub mod Rule16

@@ -1,0 +1,1 @@
+// Definitions only, so far.

@@ -1,0 +1,4 @@
+pub mod Calendar
+pub mod Duration
+pub mod Fingerprints
+pub mod Symantec
