@@ -1,18 +1,14 @@
 """The proofs of the functions that write a report: the loops over places and over rules, the writers of one entry, of one rule and of a whole
 report, and the tables by a rule's number.
 
-A crate that judges has these functions under these names. It differs from another in what it lends and in its tables: a row of CRATES."""
+The names of the functions are the same in every crate that has them; what a crate lends, and its tables, are a row of TABLES or WRITERS."""
 
-# first: the parameters before all others. lent: the slices that the rules read. test, places: the definitions of the two tables. opens: what has to be seen
-# through to see the test's cases. specs: where these stand. arms: for each function that goes by a rule's number the definition that it computes, and the function that each arm calls (None: a value).
-CRATES = {
-    "judge": {
-        "first": ["policy"],
-        "lent": ["words", "bytes", "pwords", "pbytes"],
-        "test": "brokenIn",
+# The crate that has the tables. specs: where their definitions stand. opens: what has to be seen through to see the test's cases. arms: for each function that goes by
+# a rule's number the definition that it computes, and the function that each arm calls (None: a value).
+TABLES = {
+    "rules": {
         "opens": "broken",
-        "places": "placesOf",
-        "specs": "Rattle.judge.specs.Rules",
+        "specs": "Rattle.rules.specs.Rules",
         "arms": {
             "openssl_places": ("openSslPlaces", 14 * [None]),
             "holds_at": (
@@ -34,6 +30,18 @@ CRATES = {
             ),
             "holds_between": ("holdsBetween", ["likely_issued", "check_name_constraints"]),
         },
+    },
+}
+
+# The crate that writes the report. first: the parameters before all others. lent: the slices that the rules read. test, places: the definitions of the two tables.
+# specs: where these stand.
+WRITERS = {
+    "judge": {
+        "first": ["policy"],
+        "lent": ["words", "bytes", "pwords", "pbytes"],
+        "test": "brokenIn",
+        "places": "placesOf",
+        "specs": "Rattle.rules.specs.Rules",
     },
 }
 
@@ -248,12 +256,13 @@ def write_one(crate):
 
 def files():
     made = {}
-    for crate, row in CRATES.items():
+    for crate, row in TABLES.items():
         made[crate, "breaks"] = breaks(crate, row)
+        for function, (definition, arms) in row["arms"].items():
+            made[crate, function] = table(crate, row, function, definition, arms)
+    for crate, row in WRITERS.items():
         made[crate, "write_one"] = write_one(crate)
         made[crate, "write_rule"] = write_rule(crate)
         for function, kind in LOOPS.items():
             made[crate, function] = loop(crate, row, function, kind)
-        for function, (definition, arms) in row["arms"].items():
-            made[crate, function] = table(crate, row, function, definition, arms)
     return {f"crates/{crate}/proofs/{function}/Proof.antt": text for (crate, function), text in made.items()}

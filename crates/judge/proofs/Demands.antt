@@ -27,12 +27,13 @@ use Rattle.faults.specs.declared.First.{First}
 use Rattle.faults.specs.declared.First.the-variants.{Clear, Broken as FirstBroken}
 use Rattle.faults.specs.Count.{sum, isSingle, isPairs, singleRules, pairRules}
 use Rattle.faults.proofs.Theorems.{bound, first-least, first-clear, total-most, one-report, reported-is}
-use Rattle.judge.proofs.Laws.{no-more, few-certs}
-use Rattle.judge.specs.Rules.{broken, openSslPlaces, placesOf, noLists, rules, short}
+use Rattle.rules.proofs.Laws.{no-more}
+use Rattle.judge.proofs.Laws.{few-certs}
+use Rattle.rules.specs.Rules.{broken, openSslPlaces, placesOf, noLists, rules, short}
 use Rattle.judge.specs.Judged.{placeOf, answerBy, answerOf, Judging, Outcome, Judged, OpenSslJudged}
 use Rattle.judge.specs.Obeys.{ObeysOpenSsl}
-use Rattle.judge.specs.declared.Policy.{Policy}
-use Rattle.judge.specs.declared.Policy.the-variants.{OpenSsl}
+use Rattle.rules.specs.declared.Policy.{Policy}
+use Rattle.rules.specs.declared.Policy.the-variants.{OpenSsl}
 use Rattle.judge.specs.declared.Answer.{Answer}
 use Rattle.judge.specs.declared.Answer.the-variants.{Accepted, Broken, Refused}
 use Rattle.judge.proofs.Obeying.{obeys, obeyed}

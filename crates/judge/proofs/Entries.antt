@@ -29,9 +29,9 @@ use Rattle.faults.specs.declared.Spot.{Spot}
 use Rattle.faults.specs.declared.Places.{Places}
 use Rattle.faults.proofs.Standing.{nowhere-entries, leaf-entries, each-entries, neighbours-entries, pairs-entries}
 use Rattle.faults.proofs.Theorems.{only}
-use Rattle.judge.specs.Rules.{broken, brokenAt, brokenBetween, holdsAt, holdsBetween, isRoot, placesOf, openSslPlaces, rules, short}
-use Rattle.judge.specs.declared.Policy.the-variants.{OpenSsl}
-use Rattle.judge.proofs.Laws.{no-places, no-more}
+use Rattle.rules.specs.Rules.{broken, brokenAt, brokenBetween, holdsAt, holdsBetween, isRoot, placesOf, openSslPlaces, rules, short}
+use Rattle.rules.specs.declared.Policy.the-variants.{OpenSsl}
+use Rattle.rules.proofs.Laws.{no-places, no-more}
 
 module _ (c : Chain) (l : Lists) where
   abbrev n : ℕ

@@ -13,9 +13,9 @@ use Rattle.faults.specs.declared.Entry.{Entry}
 use Rattle.faults.specs.declared.Spot.{Spot}
 use Rattle.faults.specs.declared.Places.{Places}
 use Rattle.faults.proofs.Laws.{other}
-use Rattle.judge.specs.Rules.{broken, brokenAt, brokenBetween, holdsAt, holdsBetween, placesOf, openSslPlaces, short}
+use Rattle.rules.specs.Rules.{broken, brokenAt, brokenBetween, holdsAt, holdsBetween, placesOf, openSslPlaces, short}
 use Rattle.judge.specs.Obeys.{ObeysOpenSsl}
-use Rattle.judge.specs.declared.Policy.the-variants.{OpenSsl}
+use Rattle.rules.specs.declared.Policy.the-variants.{OpenSsl}
 use Rattle.judge.proofs.Places.{holds, fails, long, at-leaf, at-each, at-neighbours, at-pairs, Quiet, quiet-nowhere, quiet-leaf, quiet-each, quiet-neighbours, quiet-pairs}
 
 by-number : {A : Type 0} (r k : ℕ) → (r ≡ k → A) → ((r ≡ k → ⊥) → A) → A

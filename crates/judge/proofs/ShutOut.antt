@@ -18,10 +18,10 @@ use Rattle.faults.specs.Report.{write, firstOf, fitting}
 use Rattle.faults.specs.declared.Entry.{Entry}
 use Rattle.faults.specs.declared.First.{First}
 use Rattle.faults.specs.declared.First.the-variants.{Clear, Broken as FirstBroken}
-use Rattle.judge.specs.Rules.{broken, placesOf, openSslPlaces, noLists, short}
+use Rattle.rules.specs.Rules.{broken, placesOf, openSslPlaces, noLists, short}
 use Rattle.judge.specs.Judged.{answerBy, OpenSslJudged}
 use Rattle.judge.specs.Obeys.{ObeysOpenSsl}
-use Rattle.judge.specs.declared.Policy.the-variants.{OpenSsl}
+use Rattle.rules.specs.declared.Policy.the-variants.{OpenSsl}
 use Rattle.judge.specs.declared.Answer.{Answer}
 use Rattle.judge.specs.declared.Answer.the-variants.{Broken, Refused}
 use Rattle.judge.proofs.Demands.{kind, accepts-openssl, reports-openssl}

@@ -15,9 +15,9 @@ use Rattle.faults.specs.declared.Spot.the-variants.{Nothing as NoSpot, Certific
 use Rattle.faults.specs.declared.First.{First}
 use Rattle.faults.specs.declared.First.the-variants.{Clear, Broken as FirstBroken}
 use Rattle.faults.specs.declared.Tally.{Tally}
-use Rattle.judge.specs.Rules.{broken, placesOf, short, noLists}
-use Rattle.judge.specs.declared.Policy.{Policy}
-use Rattle.judge.specs.declared.Policy.the-variants.{OpenSsl}
+use Rattle.rules.specs.Rules.{broken, placesOf, short, noLists}
+use Rattle.rules.specs.declared.Policy.{Policy}
+use Rattle.rules.specs.declared.Policy.the-variants.{OpenSsl}
 use Rattle.judge.specs.declared.Answer.{Answer}
 use Rattle.judge.specs.declared.Answer.the-variants.{Accepted, Broken, Refused}
 

@@ -18,7 +18,7 @@ use Rattle.parts.specs.EmptySubject.{emptySubjectImpliesCriticalSan}
 use Rattle.issuing.specs.Issuing.{likelyIssued}
 use Rattle.constrained_o.specs.Rule14.{checkNameConstraints}
 use Rattle.hosts.specs.Hostname.{hostNamed}
-use Rattle.judge.specs.Rules.{isRoot}
+use Rattle.rules.specs.Rules.{isRoot}
 
 pub record ObeysOpenSsl (c : Chain) : Type 0 where
   -- the chain has at least two certificates

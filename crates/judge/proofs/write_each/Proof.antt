@@ -5,7 +5,7 @@ use borrow.Author.Needs.{needs}
 use Rattle.faults.specs.Report.{certificate}
 use Rattle.faults.specs.Index.{asked}
 use Rattle.faults.proofs.Laws.{SoFar, so-far-none, so-far-more, each-turn, so-far-done}
-use Rattle.judge.specs.Rules.{brokenIn}
+use Rattle.rules.specs.Rules.{brokenIn}
 use Rattle.judge.proofs.write_each.Statement.{statement}
 use Rattle.judge.proofs.write_each.Tie as tie
 

@@ -6,7 +6,7 @@ use borrow.Author.Needs.{needs}
 use Rattle.faults.specs.Report.{pair}
 use Rattle.faults.specs.Index.{asked}
 use Rattle.faults.proofs.Laws.{SoFar, so-far-none, so-far-more, so-far-done}
-use Rattle.judge.specs.Rules.{brokenIn}
+use Rattle.rules.specs.Rules.{brokenIn}
 use Rattle.judge.proofs.write_neighbours.Statement.{statement}
 use Rattle.judge.proofs.write_neighbours.Tie as tie
 

@@ -4,7 +4,7 @@ use native.Mathlib.Omega.{arith}
 use borrow.Author.Needs.{needs}
 use Rattle.faults.specs.Index.{row}
 use Rattle.faults.proofs.Laws.{SoFar, so-far-none, so-far-more, pairs-turn, so-far-done}
-use Rattle.judge.specs.Rules.{brokenIn}
+use Rattle.rules.specs.Rules.{brokenIn}
 use Rattle.judge.proofs.write_pairs.Statement.{statement}
 use Rattle.judge.proofs.write_pairs.Tie as tie
 

@@ -6,7 +6,7 @@ use borrow.Author.Needs.{needs}
 use Rattle.faults.specs.Report.{pair}
 use Rattle.faults.specs.Index.{asked, row}
 use Rattle.faults.proofs.Laws.{SoFar, so-far-none, so-far-more, so-far-done}
-use Rattle.judge.specs.Rules.{brokenIn}
+use Rattle.rules.specs.Rules.{brokenIn}
 use Rattle.judge.proofs.write_row.Statement.{statement}
 use Rattle.judge.proofs.write_row.Tie as tie
 

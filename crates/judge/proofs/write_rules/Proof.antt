@@ -5,7 +5,7 @@ use mathlib.Core.Path.{refl}
 use borrow.Author.Needs.{needs}
 use Rattle.faults.specs.Index.{entriesAt, index}
 use Rattle.faults.proofs.Laws.{SoFar, so-far-none, so-far-more, so-far-done}
-use Rattle.judge.specs.Rules.{brokenIn, placesOf, rules}
+use Rattle.rules.specs.Rules.{brokenIn, placesOf, rules}
 use Rattle.judge.proofs.write_rules.Statement.{statement}
 use Rattle.judge.proofs.write_rules.Tie as tie
 

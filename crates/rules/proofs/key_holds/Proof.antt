@@ -1,7 +1,7 @@
 use mathlib.Core.Path.{refl, _∙_}
 use borrow.Author.Needs.{needs}
-use Rattle.judge.proofs.key_holds.Statement.{statement}
-use Rattle.judge.proofs.key_holds.Tie as tie
+use Rattle.rules.proofs.key_holds.Statement.{statement}
+use Rattle.rules.proofs.key_holds.Tie as tie
 
 dsa-allowed-requires : tie.Need-dsa-allowed-requires
 dsa-allowed-requires c κs = search needs

@@ -3,9 +3,9 @@ use mathlib.Core.Path.{refl}
 use borrow.Author.Needs.{needs}
 use Rattle.faults.specs.Places.{when}
 use Rattle.faults.proofs.Laws.{other}
-use Rattle.judge.specs.Rules.{holdsBetween}
-use Rattle.judge.proofs.holds_between.Statement.{statement}
-use Rattle.judge.proofs.holds_between.Tie as tie
+use Rattle.rules.specs.Rules.{holdsBetween}
+use Rattle.rules.proofs.holds_between.Statement.{statement}
+use Rattle.rules.proofs.holds_between.Tie as tie
 
 likely-issued-requires : tie.Need-likely-issued-requires
 likely-issued-requires c κs = search needs

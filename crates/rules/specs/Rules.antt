@@ -24,8 +24,8 @@ use Rattle.parts.specs.EmptySubject.{emptySubjectImpliesCriticalSan}
 use Rattle.issuing.specs.Issuing.{likelyIssued}
 use Rattle.constrained_o.specs.Rule14.{checkNameConstraints}
 use Rattle.hosts.specs.Hostname.{hostNamed}
-use Rattle.judge.specs.declared.Policy.{Policy}
-use Rattle.judge.specs.declared.Policy.the-variants.{OpenSsl}
+use Rattle.rules.specs.declared.Policy.{Policy}
+use Rattle.rules.specs.declared.Policy.the-variants.{OpenSsl}
 
 -- what a policy without lists lends
 abbrev pub noLists : Lists

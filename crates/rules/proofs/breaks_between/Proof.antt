@@ -1,8 +1,8 @@
 use mathlib.Core.Path.{refl}
 use borrow.Author.Needs.{needs}
-use Rattle.judge.specs.Rules.{brokenBetween}
-use Rattle.judge.proofs.breaks_between.Statement.{statement}
-use Rattle.judge.proofs.breaks_between.Tie as tie
+use Rattle.rules.specs.Rules.{brokenBetween}
+use Rattle.rules.proofs.breaks_between.Statement.{statement}
+use Rattle.rules.proofs.breaks_between.Tie as tie
 
 row-of-requires : tie.Need-row-of-requires
 row-of-requires c κs = search needs

@@ -1,8 +1,8 @@
 use mathlib.Core.Path.{refl}
 use borrow.Author.Needs.{needs}
-use Rattle.judge.specs.Rules.{brokenAt}
-use Rattle.judge.proofs.breaks_at.Statement.{statement}
-use Rattle.judge.proofs.breaks_at.Tie as tie
+use Rattle.rules.specs.Rules.{brokenAt}
+use Rattle.rules.proofs.breaks_at.Statement.{statement}
+use Rattle.rules.proofs.breaks_at.Tie as tie
 
 is-root-requires : tie.Need-is-root-requires
 is-root-requires c κs = search needs

@@ -1,7 +1,7 @@
 use mathlib.Core.Path.{refl}
 use borrow.Author.Needs.{needs}
-use Rattle.judge.proofs.is_root.Statement.{statement}
-use Rattle.judge.proofs.is_root.Tie as tie
+use Rattle.rules.proofs.is_root.Statement.{statement}
+use Rattle.rules.proofs.is_root.Tie as tie
 
 cast-result : tie.Need-cast-result
 cast-result c = search needs

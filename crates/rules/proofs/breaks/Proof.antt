@@ -1,8 +1,8 @@
 -- Each kind of spot has its table. Written by tools/reports.py. Assumes nothing.
 use borrow.Author.Needs.{needs}
-use Rattle.judge.specs.Rules.{broken}
-use Rattle.judge.proofs.breaks.Statement.{statement}
-use Rattle.judge.proofs.breaks.Tie as tie
+use Rattle.rules.specs.Rules.{broken}
+use Rattle.rules.proofs.breaks.Statement.{statement}
+use Rattle.rules.proofs.breaks.Tie as tie
 
 enum-told : tie.Need-enum-told
 enum-told c = search needs

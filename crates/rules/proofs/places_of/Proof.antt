@@ -1,7 +1,7 @@
 use borrow.Author.Needs.{needs}
-use Rattle.judge.proofs.Laws.{places-are}
-use Rattle.judge.proofs.places_of.Statement.{statement}
-use Rattle.judge.proofs.places_of.Tie as tie
+use Rattle.rules.proofs.Laws.{places-are}
+use Rattle.rules.proofs.places_of.Statement.{statement}
+use Rattle.rules.proofs.places_of.Tie as tie
 
 openssl-places-requires : tie.Need-openssl-places-requires
 openssl-places-requires c κs = search needs

@@ -3,9 +3,9 @@ use mathlib.Core.Path.{refl}
 use borrow.Author.Needs.{needs}
 use Rattle.faults.specs.Places.{when}
 use Rattle.faults.proofs.Laws.{other}
-use Rattle.judge.specs.Rules.{holdsAt}
-use Rattle.judge.proofs.holds_at.Statement.{statement}
-use Rattle.judge.proofs.holds_at.Tie as tie
+use Rattle.rules.specs.Rules.{holdsAt}
+use Rattle.rules.proofs.holds_at.Statement.{statement}
+use Rattle.rules.proofs.holds_at.Tie as tie
 
 check-cert-time-requires : tie.Need-check-cert-time-requires
 check-cert-time-requires c κs = search needs
