@@ -11,6 +11,7 @@ TABLES = {
         "specs": "Rattle.rules.specs.Rules",
         "arms": {
             "openssl_places": ("openSslPlaces", 14 * [None]),
+            "chrome_places": ("chromePlaces", 18 * [None]),
             "holds_at": (
                 "holdsAt",
                 [
@@ -20,15 +21,18 @@ TABLES = {
                     "key_usage_non_empty",
                     "key_holds",
                     "check_auth_subject_key_id",
-                    "check_purpose",
+                    "purpose_holds",
                     "check_ca",
                     "path_length_holds",
                     "check_san",
                     "empty_subject_implies_critical_san",
-                    "host_named",
+                    "host_holds",
+                    "valid_dns_name_constraints",
+                    "not_in_crl",
+                    "valid_root_fingerprint",
                 ],
             ),
-            "holds_between": ("holdsBetween", ["likely_issued", "check_name_constraints"]),
+            "holds_between": ("holdsBetween", ["likely_issued", "constraints_hold", "duration_holds"]),
         },
     },
 }

@@ -6,11 +6,12 @@ import sys
 import bundles
 import byte_table
 import loops
+import obeying
 import reports
 import row_loops
 import searches
 
-MAKERS = [bundles, byte_table, loops, reports, row_loops, searches]
+MAKERS = [bundles, byte_table, loops, obeying, reports, row_loops, searches]
 TOP = pathlib.Path(__file__).resolve().parent.parent
 
 

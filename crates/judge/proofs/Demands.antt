@@ -2,41 +2,40 @@
 use Prim.Native.Nat.{ℕ, _+_, _-_, _*_, _/_, _≤_, _<_}
 use native.Mathlib.Omega.{arith}
 use mathlib.Core.Path.{_≡_, refl, sym, ap, subst, _∙_}
-use mathlib.Core.Logic.{_⊎_, inl, ⊎-elim, _↔_}
+use mathlib.Core.Logic.{_⊎_, inl, inr, ⊎-elim, _↔_}
 use mathlib.Core.List.{List}
 use lib.ListN.{length}
 use Rattle.table.specs.declared.RuleNo.{RuleNo}
 use Rattle.model.specs.Model.{Chain, Lists}
 use Rattle.table.specs.Table.{countOf}
 use Rattle.model.specs.Sections.{certs}
-use Rattle.model.specs.Decode.{chainOf}
+use Rattle.model.specs.Decode.{chainOf, listsOf}
 use Rattle.sound.specs.Answer.{First as FirstFault, ChainVerdict}
-use Rattle.sound.specs.Fault.{Fault, chainLayout, mostCerts}
+use Rattle.sound.specs.Fault.{Fault, chainLayout, policyLayout, mostCerts}
 use Rattle.sound.specs.declared.Bundle.{Bundle}
-use Rattle.sound.specs.declared.Bundle.the-variants.{Chain as ChainBundle}
+use Rattle.sound.specs.declared.Bundle.the-variants.{Chain as ChainBundle, Policy as PolicyBundle}
 use Rattle.sound.specs.declared.Place.{Place}
 use Rattle.sound.specs.declared.Place.the-variants.{Nothing, Word}
 use Rattle.sound.specs.declared.Checked.{Checked}
 use Rattle.sound.specs.declared.Checked.the-variants.{Sound, Refused as RefusedBundle}
-use Rattle.sound.proofs.Verdicts.{one-verdict}
 use Rattle.faults.specs.Order.{In, Less, Ascending, Due, DueShort, DueBroken}
-use Rattle.faults.specs.Places.{shortEntry, when}
+use Rattle.faults.specs.Places.{shortEntry}
 use Rattle.faults.specs.Report.{write, fitting, firstOf, mostCount}
 use Rattle.faults.specs.declared.Entry.{Entry}
 use Rattle.faults.specs.declared.First.{First}
 use Rattle.faults.specs.declared.First.the-variants.{Clear, Broken as FirstBroken}
-use Rattle.faults.specs.Count.{sum, isSingle, isPairs, singleRules, pairRules}
 use Rattle.faults.proofs.Theorems.{bound, first-least, first-clear, total-most, one-report, reported-is}
-use Rattle.rules.proofs.Laws.{no-more}
-use Rattle.judge.proofs.Laws.{few-certs}
-use Rattle.rules.specs.Rules.{broken, openSslPlaces, placesOf, noLists, rules, short}
-use Rattle.judge.specs.Judged.{placeOf, answerBy, answerOf, Judging, Outcome, Judged, OpenSslJudged}
-use Rattle.judge.specs.Obeys.{ObeysOpenSsl}
+use Rattle.rules.proofs.Laws.{no-more, few-singles, one-of-pairs}
+use Rattle.judge.proofs.Laws.{few-certs, chain-once, chain-sound, chain-refused, policy-refused, both-once, both-sound}
+use Rattle.rules.specs.Rules.{broken, placesOf, noLists, rules, short}
+use Rattle.judge.specs.Judged.{NoFault, placeOf, answerBy, answerOf, Judging, Outcome, Judged, OpenSslJudged, BothVerdict, ChromeJudged}
+use Rattle.judge.specs.Obeys.{ObeysOpenSsl, ObeysChrome}
 use Rattle.rules.specs.declared.Policy.{Policy}
-use Rattle.rules.specs.declared.Policy.the-variants.{OpenSsl}
+use Rattle.rules.specs.declared.Policy.the-variants.{OpenSsl, Chrome}
 use Rattle.judge.specs.declared.Answer.{Answer}
 use Rattle.judge.specs.declared.Answer.the-variants.{Accepted, Broken, Refused}
-use Rattle.judge.proofs.Obeying.{obeys, obeyed}
+use Rattle.judge.proofs.ObeyingOpenSsl as O
+use Rattle.judge.proofs.ObeyingChrome as C
 
 -- which case an answer is
 abbrev pub kind : Answer → ℕ
@@ -89,20 +88,19 @@ module _ (Allowed : Checked → Type 0) (once : (r s : Checked) → Allowed r �
           (d, g, h, due, least)
 
       -- Demand 3. Some list ascends and holds exactly what is due. The report is that list written over the old words, as many whole entries as fit; the answer is by its first
-      -- entry, with its length for the total. For n of at least 1 it has at most kn + n(n - 1)/2 entries, if at most k of the policy's rules are asked of single places and one of pairs.
-      module _ (k : ℕ) (o : 1 ≤ k) (singles : singleRules (placesOf p) rules ≤ k) (pairs : pairRules (placesOf p) rules ≤ 1) (few : c .count ≤ mostCerts) (fits : k * mostCerts + mostCerts * (mostCerts - 1) / 2 ≤ mostCount) where
-        pub report : (es : List Entry) × Ascending es × ((e : Entry) → In e es ↔ IsDue e) × (new ≡ write es old) × (a ≡ answerBy (firstOf es) (length es) (fitting es old)) × (1 ≤ c .count → length es ≤ k * c .count + c .count * (c .count - 1) / 2)
-        report =
-            let r = judging .reported in
-            let exact = total-most short (broken p c l) (placesOf p) (c .count) r rules k mostCerts (no-more p) o (omega arith) few singles pairs fits .0 in
-            let e = reported-is short (broken p c l) (placesOf p) rules (c .count) (no-more p) r in (
-              r .entries,
-              r .ascending,
-              r .exactly,
-              r .wrote .buffer,
-              judging .answer-is ∙ rw (exact, r .wrote .written-is, r .wrote .first-is) refl,
-              λ h. rw e (bound short (broken p c l) (placesOf p) rules (c .count) k o h singles pairs),
-            )
+      -- entry, with its length for the total. For n of at least 1 it has at most 19n + n(n - 1)/2 entries.
+      pub report : c .count ≤ mostCerts → (es : List Entry) × Ascending es × ((e : Entry) → In e es ↔ IsDue e) × (new ≡ write es old) × (a ≡ answerBy (firstOf es) (length es) (fitting es old)) × (1 ≤ c .count → length es ≤ 19 * c .count + c .count * (c .count - 1) / 2)
+      report few =
+          let r = judging .reported in
+          let exact = total-most short (broken p c l) (placesOf p) (c .count) r rules 19 mostCerts (no-more p) (omega arith) (omega arith) few (few-singles p) (one-of-pairs p) (omega arith) .0 in
+          let e = reported-is short (broken p c l) (placesOf p) rules (c .count) (no-more p) r in (
+            r .entries,
+            r .ascending,
+            r .exactly,
+            r .wrote .buffer,
+            judging .answer-is ∙ rw (exact, r .wrote .written-is, r .wrote .first-is) refl,
+            λ h. rw e (bound short (broken p c l) (placesOf p) rules (c .count) 19 (omega arith) h (few-singles p) (one-of-pairs p)),
+          )
 
       -- A short chain has the one entry of rule 1.
       pub short-entry : c .count < 2 → (e : Entry) → IsDue e ↔ (e ≡ shortEntry short)
@@ -121,41 +119,49 @@ module _ (Allowed : Checked → Type 0) (once : (r s : Checked) → Allowed r �
     go (RefusedBundle n b q) x y = (x .0 ∙ sym (y .0), x .1 ∙ sym (y .1))
 
 -- ---- OpenSSL's judge
--- Of its rules 13 are asked of single places, one of pairs.
-thirteen : singleRules (placesOf OpenSsl) rules ≡ 13
-unfolding singleRules sum isSingle placesOf openSslPlaces when
-thirteen = refl
-
-one-of-pairs : pairRules (placesOf OpenSsl) rules ≡ 1
-unfolding pairRules sum isPairs placesOf openSslPlaces when
-one-of-pairs = refl
-
 module _ (w b : List ℕ) {old new : List ℕ} {a : Answer} (j : OpenSslJudged w b old new a) where
-  chain-once : (r s : Checked) → ChainVerdict w b r → ChainVerdict w b s → r ≡ s
-  unfolding ChainVerdict
-  chain-once = one-verdict (Fault (chainLayout w b) w b) ChainBundle
-
   -- A bundle with a fault is refused by the first: the lowest number, then the lowest word. Every word of the report is as it was.
   pub openssl-refuses : (n q : ℕ) → FirstFault (Fault (chainLayout w b) w b) n q → (a ≡ Refused n ChainBundle (Word q)) × (new ≡ old)
-  unfolding ChainVerdict
-  openssl-refuses n q f = refused (ChainVerdict w b) chain-once OpenSsl (chainOf w b) noLists j n ChainBundle (Word q) (refl, refl, f)
+  openssl-refuses n q f = refused (ChainVerdict w b) (chain-once w b) OpenSsl (chainOf w b) noLists j n ChainBundle (Word q) (chain-refused w b f)
 
   -- ---- a sound bundle: one without a fault
-  module _ (sound : (n q : ℕ) → Fault (chainLayout w b) w b n q → ⊥) where
-    is-sound : ChainVerdict w b Sound
-    unfolding ChainVerdict
-    is-sound = sound
-
+  module _ (sound : NoFault (chainLayout w b) w b) where
     -- A chain is accepted exactly if it has at least two certificates and obeys each rule wherever it is asked.
     pub accepts-openssl : (a ≡ Accepted Nothing) ↔ ObeysOpenSsl (chainOf w b)
     accepts-openssl =
-        let h = accepted (ChainVerdict w b) chain-once OpenSsl (chainOf w b) noLists j is-sound in
-        (λ e. obeys (chainOf w b) noLists (h .0 e), λ o. h .1 (obeyed (chainOf w b) noLists o))
+        let h = accepted (ChainVerdict w b) (chain-once w b) OpenSsl (chainOf w b) noLists j (chain-sound w b sound) in
+        (λ e. O.obeys (chainOf w b) noLists (h .0 e), λ o. h .1 (O.obeyed (chainOf w b) noLists o))
 
     -- The report is the whole index of faults, and the total its length: at most 19n + n(n - 1)/2.
     pub reports-openssl : (es : List Entry) × Ascending es × ((e : Entry) → In e es ↔ Due short (broken OpenSsl (chainOf w b) noLists) (placesOf OpenSsl) (countOf w certs) e) × (new ≡ write es old) × (a ≡ answerBy (firstOf es) (length es) (fitting es old)) × (1 ≤ countOf w certs → length es ≤ 19 * countOf w certs + countOf w certs * (countOf w certs - 1) / 2)
-    reports-openssl = report (ChainVerdict w b) chain-once OpenSsl (chainOf w b) noLists j is-sound 19 (omega arith) (omega (arith, thirteen)) (omega (arith, one-of-pairs)) (few-certs w b sound) (omega arith)
+    reports-openssl = report (ChainVerdict w b) (chain-once w b) OpenSsl (chainOf w b) noLists j (chain-sound w b sound) (few-certs w b sound)
 
 -- Any two answers of OpenSSL's judge to the same words are equal, and so are the reports, word for word.
 pub openssl-once : (w b : List ℕ) {old new new' : List ℕ} {a a' : Answer} → OpenSslJudged w b old new a → OpenSslJudged w b old new' a' → (a ≡ a') × (new ≡ new')
-openssl-once w b j k = one-judgement (ChainVerdict w b) (chain-once w b j) OpenSsl (chainOf w b) noLists j k
+openssl-once w b j k = one-judgement (ChainVerdict w b) (chain-once w b) OpenSsl (chainOf w b) noLists j k
+
+-- ---- Chrome's judge
+module _ (w b pw pb : List ℕ) {old new : List ℕ} {a : Answer} (j : ChromeJudged w b pw pb old new a) where
+  -- A chain's bundle with a fault is refused by the first, whatever the policy's bundle is.
+  pub chrome-refuses-chain : (n q : ℕ) → FirstFault (Fault (chainLayout w b) w b) n q → (a ≡ Refused n ChainBundle (Word q)) × (new ≡ old)
+  chrome-refuses-chain n q f = refused (BothVerdict w b pw pb) (both-once w b pw pb) Chrome (chainOf w b) (listsOf pw pb) j n ChainBundle (Word q) (inl (chain-refused w b f))
+
+  -- Under a sound chain's bundle a policy's bundle with a fault is refused by the first.
+  pub chrome-refuses-policy : NoFault (chainLayout w b) w b → (n q : ℕ) → FirstFault (Fault (policyLayout pw pb) pw pb) n q → (a ≡ Refused n PolicyBundle (Word q)) × (new ≡ old)
+  chrome-refuses-policy sound n q f = refused (BothVerdict w b pw pb) (both-once w b pw pb) Chrome (chainOf w b) (listsOf pw pb) j n PolicyBundle (Word q) (inr (chain-sound w b sound, policy-refused pw pb f))
+
+  -- ---- two sound bundles
+  module _ (sound : NoFault (chainLayout w b) w b) (lists-sound : NoFault (policyLayout pw pb) pw pb) where
+    -- A chain is accepted exactly if it has at least two certificates and obeys each rule wherever it is asked.
+    pub accepts-chrome : (a ≡ Accepted Nothing) ↔ ObeysChrome (chainOf w b) (listsOf pw pb)
+    accepts-chrome =
+        let h = accepted (BothVerdict w b pw pb) (both-once w b pw pb) Chrome (chainOf w b) (listsOf pw pb) j (both-sound w b pw pb sound lists-sound) in
+        (λ e. C.obeys (chainOf w b) (listsOf pw pb) (h .0 e), λ o. h .1 (C.obeyed (chainOf w b) (listsOf pw pb) o))
+
+    -- The report is the whole index of faults, and the total its length: at most 19n + n(n - 1)/2.
+    pub reports-chrome : (es : List Entry) × Ascending es × ((e : Entry) → In e es ↔ Due short (broken Chrome (chainOf w b) (listsOf pw pb)) (placesOf Chrome) (countOf w certs) e) × (new ≡ write es old) × (a ≡ answerBy (firstOf es) (length es) (fitting es old)) × (1 ≤ countOf w certs → length es ≤ 19 * countOf w certs + countOf w certs * (countOf w certs - 1) / 2)
+    reports-chrome = report (BothVerdict w b pw pb) (both-once w b pw pb) Chrome (chainOf w b) (listsOf pw pb) j (both-sound w b pw pb sound lists-sound) (few-certs w b sound)
+
+-- Any two answers of Chrome's judge to the same words are equal, and so are the reports, word for word.
+pub chrome-once : (w b pw pb : List ℕ) {old new new' : List ℕ} {a a' : Answer} → ChromeJudged w b pw pb old new a → ChromeJudged w b pw pb old new' a' → (a ≡ a') × (new ≡ new')
+chrome-once w b pw pb j k = one-judgement (BothVerdict w b pw pb) (both-once w b pw pb) Chrome (chainOf w b) (listsOf pw pb) j k

@@ -1,18 +1,21 @@
 -- What the proofs of the judge's functions rest on. Assumes nothing.
 use Prim.Native.Nat.{ℕ, _<_, _≤_}
 use native.Mathlib.Omega.{arith}
-use mathlib.Core.Path.{_≡_, subst}
+use mathlib.Core.Path.{_≡_, refl, ap, subst}
+use mathlib.Core.Logic.{inl, inr}
 use mathlib.Core.List.{List}
 use borrow.Author.Tests.{ltb-false}
 use Rattle.laws.proofs.Tests.{or-right}
 use Rattle.table.specs.Table.{countOf}
 use Rattle.model.specs.Model.{Chain, Lists}
 use Rattle.model.specs.Sections.{chainHeader, certs}
-use Rattle.model.specs.Decode.{chainOf}
-use Rattle.sound.specs.Fault.{Fault, chainLayout, tooLarge, mostCerts}
-use Rattle.sound.specs.Answer.{ChainVerdict}
+use Rattle.sound.specs.Fault.{Fault, chainLayout, policyLayout, tooLarge, mostCerts}
+use Rattle.sound.specs.Answer.{First, ChainVerdict, PolicyVerdict}
 use Rattle.sound.specs.declared.Bundle.{Bundle}
+use Rattle.sound.specs.declared.Bundle.the-variants.{Chain as ChainBundle, Policy as PolicyBundle}
 use Rattle.sound.specs.declared.Place.{Place}
+use Rattle.sound.specs.declared.Place.the-variants.{Word}
+use Rattle.sound.proofs.Verdicts.{one-verdict}
 use Rattle.sound.specs.declared.Checked.{Checked}
 use Rattle.sound.specs.declared.Checked.the-variants.{Sound, Refused as RefusedBundle}
 use Rattle.decoded.proofs.Gives.{in-limits}
@@ -22,12 +25,10 @@ use Rattle.faults.specs.Report.{Wrote}
 use Rattle.faults.specs.declared.Tally.{Tally}
 use Rattle.faults.proofs.Theorems.{reported}
 use Rattle.rules.proofs.Laws.{no-more}
-use Rattle.rules.specs.Rules.{broken, placesOf, noLists, rules, short}
-use Rattle.judge.specs.Judged.{answerOf, Judging, OpenSslJudged}
+use Rattle.rules.specs.Rules.{broken, placesOf, rules, short}
+use Rattle.judge.specs.Judged.{NoFault, answerOf, Judging, BothVerdict}
 use Rattle.rules.specs.declared.Policy.{Policy}
-use Rattle.rules.specs.declared.Policy.the-variants.{OpenSsl}
 use Rattle.judge.specs.declared.Answer.{Answer}
-use Rattle.judge.specs.declared.Answer.the-variants.{Refused}
 
 -- ---- the report
 -- whoever writes the index of a chain writes the whole report
@@ -37,20 +38,65 @@ whole p c l {n} = reported short (broken p c l) (placesOf p) rules n (no-more p)
 pub judging : (p : Policy) (c : Chain) (l : Lists) {n : ℕ} {old new : List ℕ} {t : Tally} {a : Answer} → n ≡ c .count → Reported short (broken p c l) (placesOf p) n old new t → a ≡ answerOf t → Judging p c l old new a
 judging p c l {old = old} {new = new} {t = t} e r h = record { tally = t; reported = subst (λ (k : ℕ). Reported short (broken p c l) (placesOf p) k old new t) e r; answer-is = h }
 
--- ---- the check of the bundle
+-- ---- the check of the bundles
 -- a sound bundle has few certificates
-pub few-certs : (w b : List ℕ) → ((n q : ℕ) → Fault (chainLayout w b) w b n q → ⊥) → countOf w certs ≤ mostCerts
+pub few-certs : (w b : List ℕ) → NoFault (chainLayout w b) w b → countOf w certs ≤ mostCerts
 few-certs w b sound = ltb-false mostCerts (countOf w certs) (or-right (tooLarge chainHeader w b) _ (in-limits (chainLayout w b) w b sound))
 
-module _ (w b : List ℕ) {r : Checked} where
-  -- so few that 32 bits count them
-  pub few-enough : r ≡ Sound → ChainVerdict w b r → countOf w certs < 4294967296
+module _ (w b : List ℕ) where
+  -- one verdict fits the chain's bundle, and one the policy's
+  pub chain-once : (r s : Checked) → ChainVerdict w b r → ChainVerdict w b s → r ≡ s
   unfolding ChainVerdict
-  few-enough e v = omega (arith, few-certs w b (rw e at v))
+  chain-once = one-verdict (Fault (chainLayout w b) w b) ChainBundle
 
-  module _ {old new : List ℕ} {a : Answer} where
-    pub sound-judged : r ≡ Sound → ChainVerdict w b r → Judging OpenSsl (chainOf w b) noLists old new a → OpenSslJudged w b old new a
-    sound-judged e v j = record { checked = Sound; verdict = rw e at v; outcome = j }
+  pub policy-once : (r s : Checked) → PolicyVerdict w b r → PolicyVerdict w b s → r ≡ s
+  unfolding PolicyVerdict
+  policy-once = one-verdict (Fault (policyLayout w b) w b) PolicyBundle
 
-    pub refused-judged : (n : ℕ) (j : Bundle) (q : Place) → r ≡ RefusedBundle n j q → ChainVerdict w b r → new ≡ old → a ≡ Refused n j q → OpenSslJudged w b old new a
-    refused-judged n j q e v k h = record { checked = RefusedBundle n j q; verdict = rw e at v; outcome = (h, k) }
+  pub chain-sound : NoFault (chainLayout w b) w b → ChainVerdict w b Sound
+  unfolding ChainVerdict
+  chain-sound sound = sound
+
+  pub chain-refused : {n q : ℕ} → First (Fault (chainLayout w b) w b) n q → ChainVerdict w b (RefusedBundle n ChainBundle (Word q))
+  unfolding ChainVerdict
+  chain-refused f = (refl, refl, f)
+
+  pub policy-refused : {n q : ℕ} → First (Fault (policyLayout w b) w b) n q → PolicyVerdict w b (RefusedBundle n PolicyBundle (Word q))
+  unfolding PolicyVerdict
+  policy-refused f = (refl, refl, f)
+
+  -- so few certificates that 32 bits count them
+  pub few-enough : ChainVerdict w b Sound → countOf w certs < 4294967296
+  unfolding ChainVerdict
+  few-enough v = omega (arith, few-certs w b v)
+
+-- which case it is
+abbrev isSound : Checked → ℕ
+isSound Sound = 1
+isSound (RefusedBundle n j q) = 0
+
+module _ (w b pw pb : List ℕ) where
+  -- a chain's bundle is not both sound and refused
+  torn : {A : Type 0} {n : ℕ} {j : Bundle} {q : Place} → ChainVerdict w b Sound → ChainVerdict w b (RefusedBundle n j q) → A
+  torn v u = absurd (omega (arith, ap isSound (chain-once w b _ _ v u)))
+
+  -- one verdict fits the two bundles
+  pub both-once : (r s : Checked) → BothVerdict w b pw pb r → BothVerdict w b pw pb s → r ≡ s
+  both-once Sound Sound u v = refl
+  both-once Sound (RefusedBundle n j q) u (inl v) = torn (u .0) v
+  both-once Sound (RefusedBundle n j q) u (inr v) = policy-once pw pb _ _ (u .1) (v .1)
+  both-once (RefusedBundle n j q) Sound (inl u) v = torn (v .0) u
+  both-once (RefusedBundle n j q) Sound (inr u) v = policy-once pw pb _ _ (u .1) (v .1)
+  both-once (RefusedBundle n j q) (RefusedBundle m k p) (inl u) (inl v) = chain-once w b _ _ u v
+  both-once (RefusedBundle n j q) (RefusedBundle m k p) (inl u) (inr v) = torn (v .0) u
+  both-once (RefusedBundle n j q) (RefusedBundle m k p) (inr u) (inl v) = torn (u .0) v
+  both-once (RefusedBundle n j q) (RefusedBundle m k p) (inr u) (inr v) = policy-once pw pb _ _ (u .1) (v .1)
+
+  -- where the chain's bundle is sound, the policy's verdict is that of both
+  pub policy-decides : (r : Checked) → ChainVerdict w b Sound → PolicyVerdict pw pb r → BothVerdict w b pw pb r
+  policy-decides Sound c v = (c, v)
+  policy-decides (RefusedBundle n j q) c v = inr (c, v)
+
+  pub both-sound : NoFault (chainLayout w b) w b → NoFault (policyLayout pw pb) pw pb → BothVerdict w b pw pb Sound
+  unfolding ChainVerdict PolicyVerdict
+  both-sound c l = (c, l)

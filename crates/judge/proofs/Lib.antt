@@ -1,6 +1,8 @@
 pub mod Demands
-pub mod Entries
+pub mod EntriesChrome
+pub mod EntriesOpenSsl
 pub mod Laws
-pub mod Obeying
+pub mod ObeyingChrome
+pub mod ObeyingOpenSsl
 pub mod Places
 pub mod ShutOut

@@ -1,10 +1,12 @@
 -- From a rule's places to what holds there, by the kind of its places, over any tests and any table. Assumes nothing.
-use Prim.Native.Nat.{ℕ, _+_, _≤_, _<_}
+use Prim.Native.Nat.{ℕ, _+_, _-_, _≤_, _<_}
 use native.Mathlib.Omega.{arith}
 use native.Mathlib.Decide.{decLt}
 use mathlib.Core.Path.{_≡_, refl, sym}
 use mathlib.Core.Logic.{inl, inr}
 use mathlib.Core.Bool.{Bool, true, false, not, true≢false}
+use lib.Dec.{eqb}
+use borrow.Author.Tests.{eqb-true, eqb-false}
 use Rattle.table.specs.declared.CertPos.{CertPos}
 use Rattle.faults.specs.Order.{Due}
 use Rattle.faults.specs.Places.{IsPlace, shortEntry}
@@ -12,7 +14,7 @@ use Rattle.faults.specs.Report.{entry, certificate, pair}
 use Rattle.faults.specs.declared.Entry.{Entry}
 use Rattle.faults.specs.declared.Spot.{Spot}
 use Rattle.faults.specs.declared.Places.{Places}
-use Rattle.faults.specs.declared.Places.the-variants.{Nowhere, Leaf, Each, Neighbours, Pairs}
+use Rattle.faults.specs.declared.Places.the-variants.{Nowhere, Leaf, Root, LeafAndRoot, Each, Neighbours, Pairs}
 
 untrue : (x : Bool) → (x ≡ true → ⊥) → x ≡ false
 untrue true h = absurd (h refl)
@@ -25,6 +27,12 @@ holds false h = absurd (true≢false h)
 pub fails : (x : Bool) → x ≡ true → not x ≡ true → ⊥
 fails true e h = true≢false (sym h)
 fails false e h = true≢false (sym e)
+
+pub by-number : {A : Type 0} (r k : ℕ) → (r ≡ k → A) → ((r ≡ k → ⊥) → A) → A
+by-number {A} r k f g = go (eqb r k) refl where
+  go : (t : Bool) → eqb r k ≡ t → A
+  go true e = f (eqb-true r k e)
+  go false e = g (eqb-false r k e)
 
 module _ (short : ℕ) (T : ℕ → Spot → Bool) (P : ℕ → Places) (n : ℕ) where
   -- ---- where nothing is due
@@ -40,6 +48,14 @@ module _ (short : ℕ) (T : ℕ → Spot → Bool) (P : ℕ → Places) (n : ℕ
       pub at-leaf : P r ≡ Leaf → T r (certificate 0) ≡ false
       unfolding IsPlace
       at-leaf e = unbroken r (certificate 0) (rw e refl)
+
+      pub at-root : P r ≡ Root → T r (certificate (n - 1)) ≡ false
+      unfolding IsPlace
+      at-root e = unbroken r (certificate (n - 1)) (rw e refl)
+
+      pub at-ends : P r ≡ LeafAndRoot → T r (pair 0 (n - 1)) ≡ false
+      unfolding IsPlace
+      at-ends e = unbroken r (pair 0 (n - 1)) (rw e refl)
 
       pub at-each : (from : CertPos) (before : ℕ) → P r ≡ Each from before → (i : ℕ) → from .0 ≤ i → i + before < n → T r (certificate i) ≡ false
       unfolding IsPlace
@@ -66,6 +82,14 @@ module _ (short : ℕ) (T : ℕ → Spot → Bool) (P : ℕ → Places) (n : ℕ
     pub quiet-leaf : P r ≡ Leaf → (T r (certificate 0) ≡ true → ⊥) → Quiet
     unfolding IsPlace
     quiet-leaf e f p t = let q = rw e at p in f (rw q at t)
+
+    pub quiet-root : P r ≡ Root → (T r (certificate (n - 1)) ≡ true → ⊥) → Quiet
+    unfolding IsPlace
+    quiet-root e f p t = let q = rw e at p in f (rw q at t)
+
+    pub quiet-ends : P r ≡ LeafAndRoot → (T r (pair 0 (n - 1)) ≡ true → ⊥) → Quiet
+    unfolding IsPlace
+    quiet-ends e f p t = let q = rw e at p in f (rw q at t)
 
     pub quiet-each : (from : CertPos) (before : ℕ) → P r ≡ Each from before → ((i : ℕ) → from .0 ≤ i → i + before < n → T r (certificate i) ≡ true → ⊥) → Quiet
     unfolding IsPlace

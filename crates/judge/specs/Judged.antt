@@ -1,10 +1,12 @@
 -- What a judge must answer and write (document 01, "What the judge says"). Assumes nothing.
 use Prim.Native.Nat.{ℕ}
 use mathlib.Core.Path.{_≡_}
+use mathlib.Core.Logic.{_⊎_}
 use mathlib.Core.List.{List, [], _∷_}
 use Rattle.model.specs.Model.{Chain, Lists}
-use Rattle.model.specs.Decode.{chainOf}
-use Rattle.sound.specs.Answer.{ChainVerdict, bundleNumber, placeKind, placeFirst, placeSecond}
+use Rattle.model.specs.Decode.{chainOf, listsOf}
+use Rattle.sound.specs.Fault.{Layout, Fault}
+use Rattle.sound.specs.Answer.{ChainVerdict, PolicyVerdict, bundleNumber, placeKind, placeFirst, placeSecond}
 use Rattle.sound.specs.declared.Place.{Place}
 use Rattle.sound.specs.declared.Place.the-variants.{Nothing, Certificate, Pair}
 use Rattle.sound.specs.declared.Checked.{Checked}
@@ -17,7 +19,7 @@ use Rattle.faults.specs.declared.First.the-variants.{Clear, Broken as FirstBrok
 use Rattle.faults.specs.declared.Tally.{Tally}
 use Rattle.rules.specs.Rules.{broken, placesOf, short, noLists}
 use Rattle.rules.specs.declared.Policy.{Policy}
-use Rattle.rules.specs.declared.Policy.the-variants.{OpenSsl}
+use Rattle.rules.specs.declared.Policy.the-variants.{OpenSsl, Chrome}
 use Rattle.judge.specs.declared.Answer.{Answer}
 use Rattle.judge.specs.declared.Answer.the-variants.{Accepted, Broken, Refused}
 
@@ -42,6 +44,10 @@ answerWords (Broken r q total written) = 1 ∷ 0 ∷ placeKind q ∷ placeFirst 
 answerWords (Refused n j q) = n ∷ bundleNumber j ∷ placeKind q ∷ placeFirst q ∷ placeSecond q ∷ 0 ∷ 0 ∷ 0 ∷ []
 
 -- ---- the judgement
+-- a bundle is sound: it has no fault, so no refusal fits it
+abbrev pub NoFault : Layout → List ℕ → List ℕ → Type 0
+NoFault y w b = (n q : ℕ) → Fault y w b n q → ⊥
+
 -- sound bundles are judged: the report is the whole index of faults, and the answer is its first entry's
 pub record Judging (p : Policy) (c : Chain) (l : Lists) (old new : List ℕ) (a : Answer) : Type 0 where
   pub tally : Tally
@@ -62,3 +68,12 @@ pub record Judged (Allowed : Checked → Type 0) (p : Policy) (c : Chain) (l : L
 -- OpenSSL takes the chain's bundle alone, and no lists
 abbrev pub OpenSslJudged : List ℕ → List ℕ → List ℕ → List ℕ → Answer → Type 0
 OpenSslJudged w b = Judged (ChainVerdict w b) OpenSsl (chainOf w b) noLists
+
+-- two bundles, of which the chain's goes first: sound if both are; a refusal is the chain's, or the policy's where the chain's bundle is sound
+abbrev pub BothVerdict : List ℕ → List ℕ → List ℕ → List ℕ → Checked → Type 0
+BothVerdict w b pw pb Sound = ChainVerdict w b Sound × PolicyVerdict pw pb Sound
+BothVerdict w b pw pb (RefusedBundle n j q) = ChainVerdict w b (RefusedBundle n j q) ⊎ (ChainVerdict w b Sound × PolicyVerdict pw pb (RefusedBundle n j q))
+
+-- Chrome takes the chain's bundle and the policy's, which holds its lists
+abbrev pub ChromeJudged : List ℕ → List ℕ → List ℕ → List ℕ → List ℕ → List ℕ → Answer → Type 0
+ChromeJudged w b pw pb = Judged (BothVerdict w b pw pb) Chrome (chainOf w b) (listsOf pw pb)

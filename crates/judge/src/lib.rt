@@ -4,11 +4,12 @@ ghost use Prim.Native.Nat.{_+_, _-_, _<_};
 ghost use Rattle.table.specs.Table.{countOf};
 ghost use Rattle.model.specs.Sections.{certs};
 ghost use Rattle.model.specs.Decode.{chainOf, listsOf};
+ghost use Rattle.sound.specs.declared.Checked.the-variants.{Sound};
 ghost use Rattle.faults.specs.Report.{Wrote};
 ghost use Rattle.faults.specs.Order.{Reported};
 ghost use Rattle.faults.specs.Index.{asked, each, neighbours, row, pairs, entriesAt, index};
 ghost use Rattle.rules.specs.Rules.{brokenIn, placesOf, rules, short};
-ghost use Rattle.judge.specs.Judged.{placeOf, answerOf, Judging, OpenSslJudged};
+ghost use Rattle.judge.specs.Judged.{placeOf, answerOf, Judging, Outcome, OpenSslJudged, BothVerdict, ChromeJudged};
 use faults::Entry;
 use faults::FEWEST;
 use faults::First;
@@ -323,20 +324,70 @@ fn judge_sound(
     answer_of(t)
 }
 
-// Judges a chain as an OpenSSL client would. A bundle that is not sound is refused, and the report stays as it was.
+// What follows from the check of the bundles. One that is not sound is refused, and the report stays as it was.
+fn judge_checked(
+    checked: Checked,
+    policy: Policy,
+    words: &[u64],
+    bytes: &[u8],
+    pwords: &[u64],
+    pbytes: &[u8],
+    report: &mut [u32],
+) -> Answer
+    requires { ⌜ checked ≡ Sound → countOf (now words) certs < 4294967296 ⌝ }
+    ensures { λ a. ⌜ Outcome policy (chainOf (now (words .entry)) (now (bytes .entry))) (listsOf (now (pwords .entry)) (now (pbytes .entry))) checked (now (report .entry)) (now (report .exit)) a ⌝ }
+{
+    match checked {
+        Checked::Sound => judge_sound(policy, words, bytes, pwords, pbytes, report),
+        Checked::Refused(n, bundle, place) => Answer::Refused(n, bundle, place),
+    }
+}
+
+// Judges a chain as an OpenSSL client would.
 pub fn openssl(words: &[u64], bytes: &[u8], report: &mut [u32]) -> Answer
     ensures { λ a. ⌜ OpenSslJudged (now (words .entry)) (now (bytes .entry)) (now (report .entry)) (now (report .exit)) a ⌝ }
 {
     let checked = sound::check_chain(words, bytes);
+    judge_checked(
+        checked,
+        Policy::OpenSsl,
+        words,
+        bytes,
+        &words[..0],
+        &bytes[..0],
+        report,
+    )
+}
+
+// The chain's bundle goes first.
+fn check_both(words: &[u64], bytes: &[u8], pwords: &[u64], pbytes: &[u8]) -> Checked
+    ensures { λ r. ⌜ BothVerdict (now (words .entry)) (now (bytes .entry)) (now (pwords .entry)) (now (pbytes .entry)) r ⌝ }
+{
+    let checked = sound::check_chain(words, bytes);
     match checked {
-        Checked::Sound => judge_sound(
-            Policy::OpenSsl,
-            words,
-            bytes,
-            &words[..0],
-            &bytes[..0],
-            report,
-        ),
-        Checked::Refused(n, bundle, place) => Answer::Refused(n, bundle, place),
+        Checked::Sound => sound::check_policy(pwords, pbytes),
+        Checked::Refused(n, bundle, place) => Checked::Refused(n, bundle, place),
     }
+}
+
+// Judges a chain as a Chrome client would, by the lists of the policy's bundle.
+pub fn chrome(
+    words: &[u64],
+    bytes: &[u8],
+    pwords: &[u64],
+    pbytes: &[u8],
+    report: &mut [u32],
+) -> Answer
+    ensures { λ a. ⌜ ChromeJudged (now (words .entry)) (now (bytes .entry)) (now (pwords .entry)) (now (pbytes .entry)) (now (report .entry)) (now (report .exit)) a ⌝ }
+{
+    let checked = check_both(words, bytes, pwords, pbytes);
+    judge_checked(
+        checked,
+        Policy::Chrome,
+        words,
+        bytes,
+        pwords,
+        pbytes,
+        report,
+    )
 }

@@ -1,52 +1,107 @@
 // The tables of rules: which rule holds where, and where each policy asks it.
 ghost use mathlib.Core.Path.{_≡_};
-ghost use Rattle.model.specs.Decode.{taskOf, certAt, chainOf};
+ghost use Rattle.model.specs.Decode.{taskOf, certAt, chainOf, listsOf};
 ghost use Rattle.fields.specs.KeyLevel.{checkCertKeyLevel};
-ghost use Rattle.rules.specs.Rules.{leastBits, dsaAllowed, holdsAt, holdsBetween, isRoot, brokenAt, brokenBetween, brokenIn, openSslPlaces, placesOf};
+ghost use Rattle.rules.specs.Rules.{leastBits, dsaAllowed, purposeHolds, constraintsHold, hostHolds, holdsAt, holdsBetween, isRoot, brokenAt, brokenBetween, brokenIn, openSslPlaces, chromePlaces, placesOf};
 use faults::Places;
 use faults::Spot;
 use model::chain::CERTS;
 use model::chain::CertRow;
 use model::chain::row_of;
+use parts::purpose::Serving;
 use table::CertPos;
 use table::RuleNo;
+
+// The rule that is asked of the whole chain.
+const SYMANTEC: u32 = 20;
 
 // The least bits of an RSA key.
 const LEAST_BITS: u64 = 1024;
 
-// Where a rule is asked of every certificate, and of every one above the leaf.
+// Where a rule is asked: of every certificate, of every one but the leaf, but the root, but these two.
 const EVERYWHERE: Places = Places::Each(CertPos(0), 0);
 
 const ABOVE_LEAF: Places = Places::Each(CertPos(1), 0);
 
-// Where a rule is asked of every pair of a certificate with one below it.
+const BELOW_ROOT: Places = Places::Each(CertPos(0), 1);
+
+const IN_BETWEEN: Places = Places::Each(CertPos(1), 1);
+
+// Of every pair of a certificate above the leaf with one below it, with the root and without.
 const PAIRS_ABOVE_LEAF: Places = Places::Pairs(CertPos(1), 0);
+
+const PAIRS_IN_BETWEEN: Places = Places::Pairs(CertPos(1), 1);
 
 // Whose rules are asked.
 pub enum Policy {
     OpenSsl,
+    Chrome,
 }
 
-fn dsa_allowed(policy: Policy) -> bool
-    ensures { λ r. ⌜ r ≡ dsaAllowed policy ⌝ }
-{
-    match policy {
-        Policy::OpenSsl => true,
-    }
-}
-
-fn is_root(words: &[u64], bytes: &[u8], i: CertPos) -> bool
-    ensures { λ r. ⌜ r ≡ isRoot (chainOf (now (words .entry)) (now (bytes .entry))) (i .0) ⌝ }
-{
-    i.0 as u64 + 1 == table::count(words, CERTS)
-}
+// ---- rules that the policies ask in two ways
 
 // Rule 6.
 fn key_holds(policy: Policy, words: &[u64], bytes: &[u8], c: CertRow) -> bool
     ensures { λ r. ⌜ r ≡ checkCertKeyLevel leastBits (dsaAllowed policy) (certAt (now (words .entry)) (now (bytes .entry)) (c .0)) ⌝ }
 {
-    let dsa = dsa_allowed(policy);
-    fields::key_level::check_cert_key_level(words, bytes, LEAST_BITS, dsa, c)
+    match policy {
+        Policy::OpenSsl => fields::key_level::check_cert_key_level(words, bytes, LEAST_BITS, true, c),
+        Policy::Chrome => fields::key_level::check_cert_key_level(words, bytes, LEAST_BITS, false, c),
+    }
+}
+
+// Rule 8.
+fn purpose_holds(policy: Policy, words: &[u64], bytes: &[u8], leaf: bool, c: CertRow) -> bool
+    ensures { λ r. ⌜ r ≡ purposeHolds policy leaf (certAt (now (words .entry)) (now (bytes .entry)) (c .0)) ⌝ }
+{
+    match policy {
+        Policy::OpenSsl => parts::purpose::check_purpose(words, bytes, leaf, c),
+        Policy::Chrome => {
+            parts::purpose::extended_key_usage_valid(words, bytes, Serving::ServerOrAny, c)
+        }
+    }
+}
+
+// Rule 14: d keeps the constraints of c.
+fn constraints_hold(
+    policy: Policy,
+    words: &[u64],
+    bytes: &[u8],
+    leaf: bool,
+    c: CertRow,
+    d: CertRow,
+) -> bool
+    ensures { λ r. ⌜ r ≡ constraintsHold policy leaf (certAt (now (words .entry)) (now (bytes .entry)) (c .0)) (certAt (now (words .entry)) (now (bytes .entry)) (d .0)) ⌝ }
+{
+    match policy {
+        Policy::OpenSsl => constrained_o::check_name_constraints(words, bytes, c, d, leaf),
+        Policy::Chrome => constrained_c::rule14::check_name_constraints(words, bytes, c, d),
+    }
+}
+
+// Rule 15.
+fn host_holds(
+    policy: Policy,
+    words: &[u64],
+    bytes: &[u8],
+    pwords: &[u64],
+    pbytes: &[u8],
+    leaf: CertRow,
+) -> bool
+    ensures { λ r. ⌜ r ≡ hostHolds policy (listsOf (now (pwords .entry)) (now (pbytes .entry))) (taskOf (now (words .entry)) (now (bytes .entry))) (certAt (now (words .entry)) (now (bytes .entry)) (leaf .0)) ⌝ }
+{
+    match policy {
+        Policy::OpenSsl => hosts::host_named(words, bytes, leaf),
+        Policy::Chrome => hosts_c::host_named(words, bytes, pwords, pbytes, leaf),
+    }
+}
+
+// ---- the rules by their numbers
+
+fn is_root(words: &[u64], bytes: &[u8], i: CertPos) -> bool
+    ensures { λ r. ⌜ r ≡ isRoot (chainOf (now (words .entry)) (now (bytes .entry))) (i .0) ⌝ }
+{
+    i.0 as u64 + 1 == table::count(words, CERTS)
 }
 
 // The rules that are asked of one certificate: c is its row.
@@ -58,8 +113,10 @@ fn holds_at(
     c: CertRow,
     words: &[u64],
     bytes: &[u8],
+    pwords: &[u64],
+    pbytes: &[u8],
 ) -> bool
-    ensures { λ r. ⌜ r ≡ holdsAt policy (taskOf (now (words .entry)) (now (bytes .entry))) (rule .0) (i .0) root (certAt (now (words .entry)) (now (bytes .entry)) (c .0)) ⌝ }
+    ensures { λ r. ⌜ r ≡ holdsAt policy (listsOf (now (pwords .entry)) (now (pbytes .entry))) (taskOf (now (words .entry)) (now (bytes .entry))) (rule .0) (i .0) root (certAt (now (words .entry)) (now (bytes .entry)) (c .0)) ⌝ }
 {
     let leaf = i.0 == 0;
     let n = rule.0;
@@ -70,12 +127,15 @@ fn holds_at(
         5 => fields::key_usage::key_usage_non_empty(words, bytes, c),
         6 => key_holds(policy, words, bytes, c),
         7 => parts::key_ids::check_auth_subject_key_id(words, bytes, root, leaf, c),
-        8 => parts::purpose::check_purpose(words, bytes, leaf, c),
+        8 => purpose_holds(policy, words, bytes, leaf, c),
         9 => parts::ca::check_ca(words, bytes, c),
         10 => parts::path_length::path_length_holds(words, bytes, i, c),
         11 => parts::san::check_san(words, bytes, c),
         12 => parts::empty_subject::empty_subject_implies_critical_san(words, bytes, c),
-        15 => hosts::host_named(words, bytes, c),
+        15 => host_holds(policy, words, bytes, pwords, pbytes, c),
+        16 => constrained_c::rule16::valid_dns_name_constraints(words, bytes, c),
+        18 => roots::fingerprints::not_in_crl(words, bytes, pwords, pbytes, c),
+        19 => roots::fingerprints::valid_root_fingerprint(words, bytes, pwords, pbytes, c),
         _ => true,
     }
 }
@@ -89,24 +149,38 @@ fn holds_between(
     d: CertRow,
     words: &[u64],
     bytes: &[u8],
+    pwords: &[u64],
+    pbytes: &[u8],
 ) -> bool
-    ensures { λ r. ⌜ r ≡ holdsBetween policy (rule .0) (j .0) (certAt (now (words .entry)) (now (bytes .entry)) (c .0)) (certAt (now (words .entry)) (now (bytes .entry)) (d .0)) ⌝ }
+    ensures { λ r. ⌜ r ≡ holdsBetween policy (listsOf (now (pwords .entry)) (now (pbytes .entry))) (rule .0) (j .0) (certAt (now (words .entry)) (now (bytes .entry)) (c .0)) (certAt (now (words .entry)) (now (bytes .entry)) (d .0)) ⌝ }
 {
     let leaf = j.0 == 0;
     let n = rule.0;
     match n {
         13 => issuing::likely_issued(words, bytes, d, c),
-        14 => constrained_o::check_name_constraints(words, bytes, c, d, leaf),
+        14 => constraints_hold(policy, words, bytes, leaf, c, d),
+        17 => roots::duration::duration_holds(words, bytes, pwords, pbytes, c, d),
         _ => true,
     }
 }
 
 // Whether a rule is broken at a certificate.
-fn breaks_at(policy: Policy, rule: RuleNo, i: CertPos, words: &[u64], bytes: &[u8]) -> bool
-    ensures { λ r. ⌜ r ≡ brokenAt policy (chainOf (now (words .entry)) (now (bytes .entry))) (rule .0) (i .0) ⌝ }
+fn breaks_at(
+    policy: Policy,
+    rule: RuleNo,
+    i: CertPos,
+    words: &[u64],
+    bytes: &[u8],
+    pwords: &[u64],
+    pbytes: &[u8],
+) -> bool
+    ensures { λ r. ⌜ r ≡ brokenAt policy (chainOf (now (words .entry)) (now (bytes .entry))) (listsOf (now (pwords .entry)) (now (pbytes .entry))) (rule .0) (i .0) ⌝ }
 {
+    if rule.0 == SYMANTEC {
+        return !roots::symantec::symantec_holds(words, bytes, pwords, pbytes);
+    }
     let root = is_root(words, bytes, i);
-    !holds_at(policy, rule, i, root, row_of(i), words, bytes)
+    !holds_at(policy, rule, i, root, row_of(i), words, bytes, pwords, pbytes)
 }
 
 // Whether a rule is broken between two.
@@ -117,10 +191,12 @@ fn breaks_between(
     j: CertPos,
     words: &[u64],
     bytes: &[u8],
+    pwords: &[u64],
+    pbytes: &[u8],
 ) -> bool
-    ensures { λ r. ⌜ r ≡ brokenBetween policy (chainOf (now (words .entry)) (now (bytes .entry))) (rule .0) (i .0) (j .0) ⌝ }
+    ensures { λ r. ⌜ r ≡ brokenBetween policy (chainOf (now (words .entry)) (now (bytes .entry))) (listsOf (now (pwords .entry)) (now (pbytes .entry))) (rule .0) (i .0) (j .0) ⌝ }
 {
-    !holds_between(policy, rule, j, row_of(i), row_of(j), words, bytes)
+    !holds_between(policy, rule, j, row_of(i), row_of(j), words, bytes, pwords, pbytes)
 }
 
 // Whether a rule is broken at a spot.
@@ -137,10 +213,12 @@ pub fn breaks(
 {
     match spot {
         Spot::Nothing => false,
-        Spot::Certificate(i) => breaks_at(policy, rule, i, words, bytes),
-        Spot::Pair(i, j) => breaks_between(policy, rule, i, j, words, bytes),
+        Spot::Certificate(i) => breaks_at(policy, rule, i, words, bytes, pwords, pbytes),
+        Spot::Pair(i, j) => breaks_between(policy, rule, i, j, words, bytes, pwords, pbytes),
     }
 }
+
+// ---- where the rules are asked
 
 // Where OpenSSL asks a rule.
 fn openssl_places(rule: RuleNo) -> Places
@@ -166,11 +244,40 @@ fn openssl_places(rule: RuleNo) -> Places
     }
 }
 
+// Where Chrome asks a rule.
+fn chrome_places(rule: RuleNo) -> Places
+    ensures { λ r. ⌜ r ≡ chromePlaces (rule .0) ⌝ }
+{
+    let n = rule.0;
+    match n {
+        2 => EVERYWHERE,
+        3 => EVERYWHERE,
+        4 => EVERYWHERE,
+        5 => EVERYWHERE,
+        6 => EVERYWHERE,
+        8 => BELOW_ROOT,
+        9 => ABOVE_LEAF,
+        10 => EVERYWHERE,
+        11 => EVERYWHERE,
+        12 => Places::Leaf,
+        13 => Places::Neighbours,
+        14 => PAIRS_IN_BETWEEN,
+        15 => Places::Leaf,
+        16 => IN_BETWEEN,
+        17 => Places::LeafAndRoot,
+        18 => EVERYWHERE,
+        19 => Places::Root,
+        20 => Places::Root,
+        _ => Places::Nowhere,
+    }
+}
+
 // Where a policy asks a rule.
 pub fn places_of(policy: Policy, rule: RuleNo) -> Places
     ensures { λ r. ⌜ r ≡ placesOf policy (rule .0) ⌝ }
 {
     match policy {
         Policy::OpenSsl => openssl_places(rule),
+        Policy::Chrome => chrome_places(rule),
     }
 }

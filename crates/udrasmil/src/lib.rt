@@ -3,7 +3,7 @@ ghost use mathlib.Core.Path.{_≡_};
 ghost use mathlib.Core.List.{[], _∷_};
 ghost use Rattle.sound.specs.Answer.{bundleNumber, placeKind, placeFirst, placeSecond};
 ghost use Rattle.judge.specs.Judged.{answerWords};
-ghost use Rattle.udrasmil.specs.Boundary.{OpenSslAnswered};
+ghost use Rattle.udrasmil.specs.Boundary.{OpenSslAnswered, ChromeAnswered};
 use judge::Answer;
 use sound::Bundle;
 use sound::Place;
@@ -101,5 +101,20 @@ pub extern "C" fn udrasmil_judge_openssl(
     ensures { λ u. ⌜ OpenSslAnswered (now (words .entry)) (now (bytes .entry)) (now (report .entry)) (now (report .exit)) (now (answer .exit)) ⌝ }
 {
     let a = judge::openssl(words, bytes, report);
+    put_answer(a, answer);
+}
+
+#[no_mangle]
+pub extern "C" fn udrasmil_judge_chrome(
+    words: &[u64],
+    bytes: &[u8],
+    pwords: &[u64],
+    pbytes: &[u8],
+    report: &mut [u32],
+    answer: &mut [u64; 8],
+)
+    ensures { λ u. ⌜ ChromeAnswered (now (words .entry)) (now (bytes .entry)) (now (pwords .entry)) (now (pbytes .entry)) (now (report .entry)) (now (report .exit)) (now (answer .exit)) ⌝ }
+{
+    let a = judge::chrome(words, bytes, pwords, pbytes, report);
     put_answer(a, answer);
 }

@@ -25,8 +25,8 @@ key-holds-requires c κs = search needs
 check-auth-subject-key-id-requires : tie.Need-check-auth-subject-key-id-requires
 check-auth-subject-key-id-requires c κs = search needs
 
-check-purpose-requires : tie.Need-check-purpose-requires
-check-purpose-requires c κs = search needs
+purpose-holds-requires : tie.Need-purpose-holds-requires
+purpose-holds-requires c κs = search needs
 
 check-ca-requires : tie.Need-check-ca-requires
 check-ca-requires c κs = search needs
@@ -40,8 +40,17 @@ check-san-requires c κs = search needs
 empty-subject-implies-critical-san-requires : tie.Need-empty-subject-implies-critical-san-requires
 empty-subject-implies-critical-san-requires c κs = search needs
 
-host-named-requires : tie.Need-host-named-requires
-host-named-requires c κs = search needs
+host-holds-requires : tie.Need-host-holds-requires
+host-holds-requires c κs = search needs
+
+valid-dns-name-constraints-requires : tie.Need-valid-dns-name-constraints-requires
+valid-dns-name-constraints-requires c κs = search needs
+
+not-in-crl-requires : tie.Need-not-in-crl-requires
+not-in-crl-requires c κs = search needs
+
+valid-root-fingerprint-requires : tie.Need-valid-root-fingerprint-requires
+valid-root-fingerprint-requires c κs = search needs
 
 returns : tie.Need-returns
 unfolding holdsAt when
@@ -69,7 +78,7 @@ returns-6 c = rw (c .before .match .keys6) (c .check-auth-subject-key-id .ensure
 
 returns-7 : tie.Need-returns-7
 unfolding holdsAt when
-returns-7 c = rw (c .before .match .keys7) (c .check-purpose .ensures)
+returns-7 c = rw (c .before .match .keys7) (c .purpose-holds .ensures)
 
 returns-8 : tie.Need-returns-8
 unfolding holdsAt when
@@ -89,12 +98,27 @@ returns-11 c = rw (c .before .match .keys11) (c .empty-subject-implies-critical-
 
 returns-12 : tie.Need-returns-12
 unfolding holdsAt when
-returns-12 c = rw (c .before .match .keys12) (c .host-named .ensures)
+returns-12 c = rw (c .before .match .keys12) (c .host-holds .ensures)
 
 returns-13 : tie.Need-returns-13
+unfolding holdsAt when
+returns-13 c = rw (c .before .match .keys13) (c .valid-dns-name-constraints .ensures)
+
+returns-14 : tie.Need-returns-14
+unfolding holdsAt when
+returns-14 c = rw (c .before .match .keys14) (c .not-in-crl .ensures)
+
+returns-15 : tie.Need-returns-15
+unfolding holdsAt when
+returns-15 c = rw (c .before .match .keys15) (c .valid-root-fingerprint .ensures)
+
+returns-16 : tie.Need-returns-16
 unfolding holdsAt
-returns-13 c =
+returns-16 c =
     let n = c .match .rest in
+    other _ _ (n .0 .0 .0 .0 .0 .0 .0 .0 .0 .0 .0 .0 .0 .0 .1) (
+    other _ _ (n .0 .0 .0 .0 .0 .0 .0 .0 .0 .0 .0 .0 .0 .1) (
+    other _ _ (n .0 .0 .0 .0 .0 .0 .0 .0 .0 .0 .0 .0 .1) (
     other _ _ (n .0 .0 .0 .0 .0 .0 .0 .0 .0 .0 .0 .1) (
     other _ _ (n .0 .0 .0 .0 .0 .0 .0 .0 .0 .0 .1) (
     other _ _ (n .0 .0 .0 .0 .0 .0 .0 .0 .0 .1) (
@@ -107,7 +131,7 @@ returns-13 c =
     other _ _ (n .0 .0 .1) (
     other _ _ (n .0 .1) (
     other _ _ (n .1) (
-    refl))))))))))))
+    refl)))))))))))))))
 
 pub holds-at-spec : {M : Type 1} → statement M
 holds-at-spec =
@@ -119,12 +143,15 @@ holds-at-spec =
     key-usage-non-empty-requires
     key-holds-requires
     check-auth-subject-key-id-requires
-    check-purpose-requires
+    purpose-holds-requires
     check-ca-requires
     path-length-holds-requires
     check-san-requires
     empty-subject-implies-critical-san-requires
-    host-named-requires
+    host-holds-requires
+    valid-dns-name-constraints-requires
+    not-in-crl-requires
+    valid-root-fingerprint-requires
     returns
     returns-2
     returns-3
@@ -137,4 +164,7 @@ holds-at-spec =
     returns-10
     returns-11
     returns-12
-    returns-13)
+    returns-13
+    returns-14
+    returns-15
+    returns-16)

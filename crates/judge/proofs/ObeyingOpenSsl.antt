@@ -1,11 +1,9 @@
--- A chain obeys OpenSSL's rules exactly if no entry is due: each rule at its places, and no rule besides. Assumes nothing.
+-- A chain obeys OpenSSL's rules exactly if no entry is due: each rule at its places, and no rule besides. Written by tools/obeying.py. Assumes nothing.
 use Prim.Native.Nat.{ℕ}
 use native.Mathlib.Omega.{arith}
-use mathlib.Core.Path.{_≡_, refl, sym, subst}
+use mathlib.Core.Path.{refl, sym, subst}
 use mathlib.Core.Logic.{⊎-elim}
-use mathlib.Core.Bool.{Bool, true, false}
-use lib.Dec.{eqb}
-use borrow.Author.Tests.{eqb-true, eqb-false}
+use mathlib.Core.Bool.{Bool}
 use Rattle.model.specs.Model.{Chain, Lists}
 use Rattle.faults.specs.Order.{Due, DueShort, DueBroken}
 use Rattle.faults.specs.Places.{when}
@@ -14,15 +12,9 @@ use Rattle.faults.specs.declared.Spot.{Spot}
 use Rattle.faults.specs.declared.Places.{Places}
 use Rattle.faults.proofs.Laws.{other}
 use Rattle.rules.specs.Rules.{broken, brokenAt, brokenBetween, holdsAt, holdsBetween, placesOf, openSslPlaces, short}
-use Rattle.judge.specs.Obeys.{ObeysOpenSsl}
 use Rattle.rules.specs.declared.Policy.the-variants.{OpenSsl}
-use Rattle.judge.proofs.Places.{holds, fails, long, at-leaf, at-each, at-neighbours, at-pairs, Quiet, quiet-nowhere, quiet-leaf, quiet-each, quiet-neighbours, quiet-pairs}
-
-by-number : {A : Type 0} (r k : ℕ) → (r ≡ k → A) → ((r ≡ k → ⊥) → A) → A
-by-number {A} r k f g = go (eqb r k) refl where
-  go : (t : Bool) → eqb r k ≡ t → A
-  go true e = f (eqb-true r k e)
-  go false e = g (eqb-false r k e)
+use Rattle.judge.specs.Obeys.{ObeysOpenSsl}
+use Rattle.judge.proofs.Places.{holds, fails, by-number, long, at-each, at-leaf, at-neighbours, at-pairs, Quiet, quiet-nowhere, quiet-each, quiet-leaf, quiet-neighbours, quiet-pairs}
 
 module _ (c : Chain) (l : Lists) where
   abbrev n : ℕ
@@ -35,7 +27,7 @@ module _ (c : Chain) (l : Lists) where
   P = placesOf OpenSsl
 
   pub obeys : ((e : Entry) → Due short T P n e → ⊥) → ObeysOpenSsl c
-  unfolding placesOf openSslPlaces when broken brokenAt holdsAt brokenBetween holdsBetween
+  unfolding placesOf openSslPlaces when broken brokenAt brokenBetween holdsAt holdsBetween
   obeys clear = record {
     rule-1 = long short T P n clear;
     rule-2 = λ i u. holds _ (at-each short T P n clear 2 _ _ refl i (omega arith) (omega arith));
@@ -55,7 +47,7 @@ module _ (c : Chain) (l : Lists) where
   }
 
   quiet : ObeysOpenSsl c → (r : ℕ) (s : Spot) → Quiet short T P n r s
-  unfolding placesOf openSslPlaces when broken brokenAt holdsAt brokenBetween holdsBetween
+  unfolding placesOf openSslPlaces when broken brokenAt brokenBetween holdsAt holdsBetween
   quiet o r s =
       by-number r 2 (λ e. subst (λ (r : ℕ). Quiet short T P n r s) (sym e) (quiet-each short T P n 2 s _ _ refl (λ i l u. fails _ (o .rule-2 i (omega arith))))) (λ h2.
       by-number r 3 (λ e. subst (λ (r : ℕ). Quiet short T P n r s) (sym e) (quiet-each short T P n 3 s _ _ refl (λ i l u. fails _ (o .rule-3 i (omega arith))))) (λ h3.

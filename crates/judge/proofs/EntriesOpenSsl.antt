@@ -1,4 +1,4 @@
--- Where the entries of each of OpenSSL's rules stand, and that no rule besides has any. Assumes nothing.
+-- Where the entries of each of OpenSSL's rules stand, and that no rule besides has any. Written by tools/obeying.py. Assumes nothing.
 use Prim.Native.Nat.{ℕ, _+_, _≤_, _<_}
 use mathlib.Core.Path.{_≡_, refl}
 use mathlib.Core.Logic.{_⊎_, _↔_}
@@ -27,11 +27,12 @@ use Rattle.faults.specs.Report.{entry, certificate, pair}
 use Rattle.faults.specs.declared.Entry.{Entry}
 use Rattle.faults.specs.declared.Spot.{Spot}
 use Rattle.faults.specs.declared.Places.{Places}
-use Rattle.faults.proofs.Standing.{nowhere-entries, leaf-entries, each-entries, neighbours-entries, pairs-entries}
+use Rattle.faults.proofs.Standing.{nowhere-entries, each-entries, leaf-entries, neighbours-entries, pairs-entries}
 use Rattle.faults.proofs.Theorems.{only}
 use Rattle.rules.specs.Rules.{broken, brokenAt, brokenBetween, holdsAt, holdsBetween, isRoot, placesOf, openSslPlaces, rules, short}
 use Rattle.rules.specs.declared.Policy.the-variants.{OpenSsl}
-use Rattle.rules.proofs.Laws.{no-places, no-more}
+use Rattle.rules.proofs.Besides.{not-openssl}
+use Rattle.rules.proofs.Laws.{no-more}
 
 module _ (c : Chain) (l : Lists) where
   abbrev n : ℕ
@@ -115,4 +116,4 @@ module _ (c : Chain) (l : Lists) where
     -- no rule besides has an entry
     pub of-others : (r : ℕ) → (r < 2) ⊎ (15 < r) → Stands r → ⊥
     unfolding placesOf
-    of-others r h = nowhere-entries short T P rules n (no-more OpenSsl) enough r (no-places r h) s
+    of-others r h = nowhere-entries short T P rules n (no-more OpenSsl) enough r (not-openssl r h) s
