@@ -270,6 +270,19 @@ ROWS = [
             "Rattle.lists.specs.Listed.{matched}",
         ],
     },
+    {
+        "crate": "roots",
+        "function": "symantec::any_exception",
+        "kind": "any",
+        "parameters": "words bytes pwords pbytes e",
+        "test": "is_exception",
+        "definition": "isException (listsOf pwords pbytes)",
+        "read": "certAt words bytes",
+        "uses": [
+            "Rattle.model.specs.Decode.{certAt, listsOf}",
+            "Rattle.roots.specs.Symantec.{isException}",
+        ],
+    },
 ]
 FOUND = "search needs"
 
