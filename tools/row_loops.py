@@ -237,6 +237,52 @@ ROWS = [
             "Rattle.hosts.specs.Hostname.{namesHost}",
         ],
     },
+    {
+        "crate": "lists",
+        "function": "any_is",
+        "kind": "any",
+        "parameters": "words bytes s e",
+        "test": "entry_is",
+        "definition": "λ x. eqList x s",
+        "read": "entryAt words bytes",
+        "answer": "listed {rows} s",
+        "opens": "listed",
+        "uses": [
+            "Rattle.laws.specs.Lists.{eqList}",
+            "Rattle.model.specs.Decode.{entryAt}",
+            "Rattle.lists.specs.Listed.{listed}",
+        ],
+    },
+    {
+        "crate": "lists",
+        "function": "any_matches",
+        "kind": "any",
+        "parameters": "words bytes name e",
+        "test": "entry_matches",
+        "definition": "λ x. matchName x (lowered name)",
+        "read": "entryAt words bytes",
+        "answer": "matched {rows} (lowered name)",
+        "opens": "matched",
+        "uses": [
+            "Rattle.text.specs.Texts.{lowered}",
+            "Rattle.patterns.specs.Patterns.{matchName}",
+            "Rattle.model.specs.Decode.{entryAt}",
+            "Rattle.lists.specs.Listed.{matched}",
+        ],
+    },
+    {
+        "crate": "roots",
+        "function": "symantec::any_exception",
+        "kind": "any",
+        "parameters": "words bytes pwords pbytes e",
+        "test": "is_exception",
+        "definition": "isException (listsOf pwords pbytes)",
+        "read": "certAt words bytes",
+        "uses": [
+            "Rattle.model.specs.Decode.{certAt, listsOf}",
+            "Rattle.roots.specs.Symantec.{isException}",
+        ],
+    },
 ]
 FOUND = "search needs"
 

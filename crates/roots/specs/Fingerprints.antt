@@ -11,10 +11,15 @@ unfoldable pub notInCrl : Lists → Cert → Bool
 notInCrl l c = not (listed (l .crl) (c .fingerprint))
 
 -- a root whose fingerprint is in `trusted` is one for the hosts that an entry of `domains` matches
-unfoldable pub servesDomains : List Bytes → List Bytes → Cert → Bytes → Bool
-servesDomains trusted domains root host = not (listed trusted (root .fingerprint)) || matched domains host
+unfoldable pub servesDomains : List Bytes → List Bytes → Bytes → Bytes → Bool
+servesDomains trusted domains fingerprint host = not (listed trusted fingerprint) || matched domains host
 
--- rule 19: if there is a host, then lowered (and not cleaned) it is one that the root may serve, by india's lists and by anssi's
+-- by india's lists and by anssi's the root is one for the host, which is lowered and not cleaned
+unfoldable pub servesHost : Lists → Cert → Bytes → Bool
+servesHost l root host =
+    servesDomains (l .indiaTrusted) (l .indiaDomains) (root .fingerprint) (lowered host)
+    && servesDomains (l .anssiTrusted) (l .anssiDomains) (root .fingerprint) (lowered host)
+
+-- rule 19: if there is a host, that
 unfoldable pub validRootFingerprint : Lists → Task → Cert → Bool
-validRootFingerprint l t root =
-    ifThere (λ (host : Bytes). servesDomains (l .indiaTrusted) (l .indiaDomains) root (lowered host) && servesDomains (l .anssiTrusted) (l .anssiDomains) root (lowered host)) (t .host)
+validRootFingerprint l t root = ifThere (servesHost l root) (t .host)

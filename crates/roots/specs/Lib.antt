@@ -1,4 +1,5 @@
 pub mod Calendar
 pub mod Duration
 pub mod Fingerprints
+pub mod Stated
 pub mod Symantec

@@ -1,1 +1,22 @@
-// Definitions only, so far.
+// Rules 17 to 20: what Chrome's calendar and the lists of a policy say of a certificate. A module a rule or two.
+pub mod calendar;
+pub mod duration;
+pub mod fingerprints;
+pub mod symantec;
+
+ghost use mathlib.Core.Path.{_≡_};
+ghost use Rattle.model.specs.Decode.{certAt};
+use model::chain::CertRow;
+use table::StringNo;
+
+const FINGERPRINT: u64 = 0;
+
+fn fingerprint<'a>(words: &[u64], bytes: &'a [u8], c: CertRow) -> &'a [u8]
+    ensures { λ r. ⌜ now r ≡ (certAt (now (words .entry)) (now (bytes .entry)) (c .0)) .fingerprint ⌝ }
+{
+    table::string(
+        words,
+        bytes,
+        StringNo(model::chain::cert_word(words, c, FINGERPRINT)),
+    )
+}

@@ -1,0 +1,17 @@
+use Rattle.roots.specs.Symantec.{isException}
+use borrow.Author.Needs.{needs}
+use Rattle.roots.proofs.symantec.is_exception.Statement.{statement}
+use Rattle.roots.proofs.symantec.is_exception.Tie as tie
+
+fingerprint-requires : tie.Need-fingerprint-requires
+fingerprint-requires c κs = search needs
+
+in-list-requires : tie.Need-in-list-requires
+in-list-requires c κs = search needs
+
+returns : tie.Need-returns
+unfolding isException
+returns c = cc
+
+pub is-exception-spec : {M : Type 1} → statement M
+is-exception-spec = tie.close (tie.spec fingerprint-requires in-list-requires returns)
