@@ -283,6 +283,21 @@ ROWS = [
             "Rattle.roots.specs.Symantec.{isException}",
         ],
     },
+    {
+        "crate": "constrained_c",
+        "function": "rule16::all_valid",
+        "kind": "all",
+        "parameters": "words bytes e",
+        "test": "valid_if_dns",
+        "definition": "validIfDns",
+        "read": "generalAt words bytes",
+        "answer": "all validIfDns (generalsIn words bytes {range})",
+        "opens": "generalsIn",
+        "uses": [
+            "Rattle.model.specs.Decode.{generalAt, generalsIn}",
+            "Rattle.constrained_c.specs.Rule16.{validIfDns}",
+        ],
+    },
 ]
 FOUND = "search needs"
 
@@ -348,8 +363,9 @@ def over_two(row, test):
 def one_range(row):
     """What a loop over one range is to answer, and what is left of it at i."""
     rest = lambda i: f"(rows ({row['read']}) {i} e)"
-    left = f"{row['kind']} ({row['definition']}) {rest('i')}"
-    answer = row.get("answer", "%s (%s) {rows}" % (row["kind"], row["definition"]))
+    test = f"({row['definition']})" if " " in row["definition"] else row["definition"]
+    left = f"{row['kind']} {test} {rest('i')}"
+    answer = row.get("answer", "%s %s {rows}" % (row["kind"], test))
     return answer.format(rows=rest("i₀"), range="(record { from = i₀; to = e })"), left
 
 

@@ -1,5 +1,4 @@
 -- Rule 16: what a DNS constraint must be. Assumes nothing.
-use mathlib.Core.List.{List}
 use mathlib.Core.Bool.{Bool, true, _&&_}
 use Rattle.laws.specs.Lists.{all}
 use Rattle.laws.specs.Optional.{ifThere}
