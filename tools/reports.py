@@ -4,7 +4,8 @@ report, and the tables by a rule's number.
 The names of the functions are the same in every crate that has them; what a crate lends, and its tables, are a row of TABLES or WRITERS."""
 
 # The crate that has the tables. specs: where their definitions stand. opens: what has to be seen through to see the test's cases. arms: for each function that goes by
-# a rule's number the definition that it computes, and the function that each arm calls (None: a value).
+# a rule's number the definition that it computes, and the function that each arm calls (None: a value). policies: for each function that goes by the policy the
+# function that each arm calls; the definition is named where it has to be seen through.
 TABLES = {
     "rules": {
         "opens": "broken",
@@ -33,6 +34,13 @@ TABLES = {
                 ],
             ),
             "holds_between": ("holdsBetween", ["likely_issued", "constraints_hold", "duration_holds"]),
+        },
+        "policies": {
+            "key_holds": (None, ["check_cert_key_level", "check_cert_key_level"]),
+            "purpose_holds": (None, ["check_purpose", "extended_key_usage_valid"]),
+            "constraints_hold": (None, ["check_name_constraints", "check_name_constraints"]),
+            "host_holds": (None, ["host_named", "host_named"]),
+            "places_of": ("placesOf", ["openssl_places", "chrome_places"]),
         },
     },
 }
@@ -213,6 +221,18 @@ def table(crate, row, function, definition, arms):
     return proof(crate, function, "Each arm is a line of the table.", uses, {**requires, **returns})
 
 
+def by_policy(crate, row, function, definition, calls):
+    """A `match` on the policy: each case calls its own function."""
+    names, needs, returns = Names(), [], {}
+    for k, call in enumerate(calls, 1):
+        n = names.take(call)
+        needs += [Names.need("enum-told", k), Names.need(dashed(call) + "-requires", n)]
+        answer = f"rw ({back(1)} .{Names.fact('enum-told', k)} .given .1) (c .{Names.fact(dashed(call), n)} .ensures)"
+        returns[Names.need("returns", k)] = (definition, answer) if definition else answer
+    uses = ["borrow.Author.Needs.{needs}", some(row["specs"], [definition] if definition else [])]
+    return proof(crate, function, "Each policy has its own.", uses, {**{need: "search needs" for need in needs}, **returns})
+
+
 def write_rule(crate):
     """The writer of one rule: a `match` on its places."""
     names, needs, returns = Names(), ["places-of-requires", "without-requires", "enum-told"], {}
@@ -264,6 +284,8 @@ def files():
         made[crate, "breaks"] = breaks(crate, row)
         for function, (definition, arms) in row["arms"].items():
             made[crate, function] = table(crate, row, function, definition, arms)
+        for function, (definition, calls) in row["policies"].items():
+            made[crate, function] = by_policy(crate, row, function, definition, calls)
     for crate, row in WRITERS.items():
         made[crate, "write_one"] = write_one(crate)
         made[crate, "write_rule"] = write_rule(crate)
