@@ -30,12 +30,14 @@ pub const ANSSI_TRUSTED: ListNo = ListNo(7);
 
 pub const ANSSI_DOMAINS: ListNo = ListNo(8);
 
+// Whether an entry is the text.
 fn entry_is(words: &[u64], bytes: &[u8], n: EntryNo, s: &[u8]) -> bool
     ensures { λ r. ⌜ r ≡ eqList (entryAt (now (words .entry)) (now (bytes .entry)) (n .0)) (now (s .entry)) ⌝ }
 {
     text::same(model::policy::entry(words, bytes, n), s)
 }
 
+// Whether some entry of a range is the text.
 fn any_is(words: &[u64], bytes: &[u8], r: Range, s: &[u8]) -> bool
     ensures { λ t. ⌜ t ≡ listed (over (entryAt (now (words .entry)) (now (bytes .entry))) r) (now (s .entry)) ⌝ }
 {
@@ -68,6 +70,7 @@ fn entry_matches(words: &[u64], bytes: &[u8], n: EntryNo, name: &[u8]) -> bool
     )
 }
 
+// Whether some entry of a range matches the lowered name.
 fn any_matches(words: &[u64], bytes: &[u8], r: Range, name: &[u8]) -> bool
     ensures { λ t. ⌜ t ≡ matched (over (entryAt (now (words .entry)) (now (bytes .entry))) r) (lowered (now (name .entry))) ⌝ }
 {

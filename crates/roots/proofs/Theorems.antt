@@ -136,7 +136,7 @@ module _ (l : Lists) (t : Task) (root : Cert) where
         (serves-domains-means _ _ _ _ .0 (and-left (india host) _ k), serves-domains-means _ _ _ _ .0 (and-right (india host) _ k))
 
     from : ValidRootFingerprint l t root → validRootFingerprint l t root ≡ true
-    from f = go (t .host) (λ host e. let (i, a) = f host e in rw (serves-domains-means _ _ _ _ .1 i) (serves-domains-means _ _ _ _ .1 a)) where
+    from f = go (t .host) (λ host e. let (i, a) = f host e in rw (serves-domains-means (l .indiaTrusted) (l .indiaDomains) (root .fingerprint) (lowered host) .1 i) (serves-domains-means _ _ _ _ .1 a)) where
       go : (o : Option Bytes) → ((host : Bytes) → o ≡ some host → servesHost l root host ≡ true) → ifThere (servesHost l root) o ≡ true
       go none g = refl
       go (some host) g = g host refl

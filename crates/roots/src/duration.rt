@@ -10,6 +10,7 @@ const NOT_BEFORE: u64 = 5;
 
 const NOT_AFTER: u64 = 6;
 
+// Whether the fingerprint of the root is in known_roots.
 fn is_known_root(words: &[u64], bytes: &[u8], pwords: &[u64], pbytes: &[u8], root: CertRow) -> bool
     ensures { λ r. ⌜ r ≡ isKnownRoot (listsOf (now (pwords .entry)) (now (pbytes .entry))) (certAt (now (words .entry)) (now (bytes .entry)) (root .0)) ⌝ }
 {
@@ -21,6 +22,7 @@ fn is_known_root(words: &[u64], bytes: &[u8], pwords: &[u64], pbytes: &[u8], roo
     )
 }
 
+// Whether the calendar allows the leaf's time.
 fn leaf_duration_valid(words: &[u64], bytes: &[u8], leaf: CertRow) -> bool
     ensures { λ r. ⌜ r ≡ leafDurationValid (certAt (now (words .entry)) (now (bytes .entry)) (leaf .0)) ⌝ }
 {

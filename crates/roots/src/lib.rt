@@ -11,6 +11,7 @@ use table::StringNo;
 
 const FINGERPRINT: u64 = 0;
 
+// The fingerprint of a certificate, as a part of the bytes.
 fn fingerprint<'a>(words: &[u64], bytes: &'a [u8], c: CertRow) -> &'a [u8]
     ensures { λ r. ⌜ now r ≡ (certAt (now (words .entry)) (now (bytes .entry)) (c .0)) .fingerprint ⌝ }
 {

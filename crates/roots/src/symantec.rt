@@ -21,6 +21,7 @@ fn root_row(words: &[u64]) -> CertRow
     CertRow(n - 1)
 }
 
+// Whether the fingerprint of the root is in symantec_roots.
 fn is_symantec_root(
     words: &[u64],
     bytes: &[u8],
@@ -38,6 +39,7 @@ fn is_symantec_root(
     )
 }
 
+// Whether the fingerprint of a certificate is in symantec_exceptions.
 fn is_exception(words: &[u64], bytes: &[u8], pwords: &[u64], pbytes: &[u8], c: CertRow) -> bool
     ensures { λ r. ⌜ r ≡ isException (listsOf (now (pwords .entry)) (now (pbytes .entry))) (certAt (now (words .entry)) (now (bytes .entry)) (c .0)) ⌝ }
 {
@@ -49,6 +51,7 @@ fn is_exception(words: &[u64], bytes: &[u8], pwords: &[u64], pbytes: &[u8], c: C
     )
 }
 
+// Whether some certificate of a range is an exception.
 fn any_exception(words: &[u64], bytes: &[u8], pwords: &[u64], pbytes: &[u8], r: Range) -> bool
     ensures { λ t. ⌜ t ≡ any (isException (listsOf (now (pwords .entry)) (now (pbytes .entry)))) (over (certAt (now (words .entry)) (now (bytes .entry))) r) ⌝ }
 {

@@ -7,6 +7,7 @@ use Rattle.text.specs.Bytes.{lowerByte}
 use Rattle.text.specs.Texts.{Text, quoted, lowered, startsWith, endsWith, covers}
 use Rattle.patterns.specs.Address.{maskedEqual, agreesAt, inRange, ipAddrInRange}
 use Rattle.patterns.specs.Patterns.{matchName, oneLabel, finalDotOff, cleanName}
+use Rattle.roots.specs.Calendar.{spanValid}
 use Rattle.patterns.proofs.Ranges.{other-lengths}
 use Rattle.specimens.specs.Specimens.{Specimens}
 
@@ -15,13 +16,18 @@ unfolding matchName startsWith each
 star-alone name = refl
 
 pub specimens : Specimens
-unfolding matchName oneLabel startsWith endsWith covers cleanName finalDotOff lowered lowerByte ipAddrInRange inRange agreesAt maskedEqual any all each rows run
+unfolding matchName oneLabel startsWith endsWith covers cleanName finalDotOff lowered lowerByte ipAddrInRange inRange agreesAt maskedEqual spanValid any all each rows run
 specimens = record {
   star-apex = refl;
   star-label = refl;
   star-two-labels = refl;
   star-empty-label = refl;
   star-alone = star-alone;
+  days-398 = refl;
+  days-398-and-a-second = refl;
+  days-825-allowed = refl;
+  ends-before-july-2019 = refl;
+  ends-in-july-2019 = refl;
   covers-label = refl;
   covers-no-part = refl;
   dot-covers-no-apex = refl;

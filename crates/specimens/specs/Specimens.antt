@@ -1,5 +1,5 @@
--- Document 01's specimens that are proved, one line each, in its order. Dates and Chrome's cleaning of SAN names are not in it yet. Assumes nothing.
-use Prim.Native.Nat.{ℕ}
+-- Document 01's specimens that are proved, one line each, in its order. Chrome's cleaning of SAN names is not in it yet. Assumes nothing.
+use Prim.Native.Nat.{ℕ, _+_}
 use mathlib.Core.Path.{_≡_}
 use mathlib.Core.List.{List, [], _∷_}
 use mathlib.Core.Bool.{true, false}
@@ -7,6 +7,7 @@ use lib.ListN.{length}
 use Rattle.text.specs.Texts.{Text, quoted, covers}
 use Rattle.patterns.specs.Address.{ipAddrInRange}
 use Rattle.patterns.specs.Patterns.{matchName, cleanName}
+use Rattle.roots.specs.Calendar.{spanValid}
 
 pub record Specimens : Type 0 where
   -- `*.a.com` matches a.com and x.a.com, not x.y.a.com, not .a.com
@@ -16,6 +17,13 @@ pub record Specimens : Type 0 where
   pub star-empty-label : matchName (quoted "*.a.com") (quoted ".a.com") ≡ false
   -- `*.` matches nothing
   pub star-alone : (name : Text) → matchName (quoted "*.") name ≡ false
+  -- from 1598918400 to 1633305600: valid; one second longer: not; from 1598918399, 34387201 long: valid
+  pub days-398 : spanValid 1598918400 1633305600 ≡ true
+  pub days-398-and-a-second : spanValid 1598918400 1633305601 ≡ false
+  pub days-825-allowed : spanValid 1598918399 (1598918399 + 34387201) ≡ true
+  -- from 1341100799 to 1561939199 valid, to 1561939200 not
+  pub ends-before-july-2019 : spanValid 1341100799 1561939199 ≡ true
+  pub ends-in-july-2019 : spanValid 1341100799 1561939200 ≡ false
   -- a.com covers x.a.com, not ba.com; .a.com doesn't cover a.com
   pub covers-label : covers (quoted "a.com") (quoted "x.a.com") ≡ true
   pub covers-no-part : covers (quoted "a.com") (quoted "ba.com") ≡ false
