@@ -1,0 +1,15 @@
+use borrow.Author.Needs.{needs}
+use Rattle.lists.proofs.entry_is.Statement.{statement}
+use Rattle.lists.proofs.entry_is.Tie as tie
+
+entry-requires : tie.Need-entry-requires
+entry-requires c κs = search needs
+
+same-requires : tie.Need-same-requires
+same-requires c κs = search needs
+
+returns : tie.Need-returns
+returns c = cc
+
+pub entry-is-spec : {M : Type 1} → statement M
+entry-is-spec = tie.close (tie.spec entry-requires same-requires returns)
