@@ -253,6 +253,23 @@ ROWS = [
         ],
     },
     {
+        "crate": "hosts_c",
+        "function": "any_dns_names",
+        "kind": "any",
+        "parameters": "words bytes exact host e",
+        "test": "dns_names",
+        "definition": "dnsAnd (namesClean exact (lowered host))",
+        "read": "generalAt words bytes",
+        "answer": "any (dnsAnd (namesClean exact (lowered host))) (generalsIn words bytes {range})",
+        "opens": "generalsIn",
+        "uses": [
+            "Rattle.text.specs.Texts.{lowered}",
+            "Rattle.model.specs.Decode.{generalAt, generalsIn}",
+            "Rattle.sans.specs.Sans.{dnsAnd}",
+            "Rattle.hosts_c.specs.SanHost.{namesClean}",
+        ],
+    },
+    {
         "crate": "lists",
         "function": "any_is",
         "kind": "any",
