@@ -192,6 +192,21 @@ ROWS = [
         ],
     },
     {
+        "crate": "constrained_c",
+        "function": "rule16::all_valid",
+        "kind": "all",
+        "parameters": "words bytes e",
+        "test": "valid_if_dns",
+        "definition": "validIfDns",
+        "read": "generalAt words bytes",
+        "answer": "all validIfDns (generalsIn words bytes {range})",
+        "opens": "generalsIn",
+        "uses": [
+            "Rattle.model.specs.Decode.{generalAt, generalsIn}",
+            "Rattle.constrained_c.specs.Rule16.{validIfDns}",
+        ],
+    },
+    {
         "crate": "hosts",
         "function": "any_dns_names",
         "kind": "any",
@@ -238,6 +253,23 @@ ROWS = [
         ],
     },
     {
+        "crate": "hosts_c",
+        "function": "any_dns_names",
+        "kind": "any",
+        "parameters": "words bytes exact host e",
+        "test": "dns_names",
+        "definition": "dnsAnd (namesClean exact (lowered host))",
+        "read": "generalAt words bytes",
+        "answer": "any (dnsAnd (namesClean exact (lowered host))) (generalsIn words bytes {range})",
+        "opens": "generalsIn",
+        "uses": [
+            "Rattle.text.specs.Texts.{lowered}",
+            "Rattle.model.specs.Decode.{generalAt, generalsIn}",
+            "Rattle.sans.specs.Sans.{dnsAnd}",
+            "Rattle.hosts_c.specs.SanHost.{namesClean}",
+        ],
+    },
+    {
         "crate": "lists",
         "function": "any_is",
         "kind": "any",
@@ -281,21 +313,6 @@ ROWS = [
         "uses": [
             "Rattle.model.specs.Decode.{certAt, listsOf}",
             "Rattle.roots.specs.Symantec.{isException}",
-        ],
-    },
-    {
-        "crate": "constrained_c",
-        "function": "rule16::all_valid",
-        "kind": "all",
-        "parameters": "words bytes e",
-        "test": "valid_if_dns",
-        "definition": "validIfDns",
-        "read": "generalAt words bytes",
-        "answer": "all validIfDns (generalsIn words bytes {range})",
-        "opens": "generalsIn",
-        "uses": [
-            "Rattle.model.specs.Decode.{generalAt, generalsIn}",
-            "Rattle.constrained_c.specs.Rule16.{validIfDns}",
         ],
     },
 ]

@@ -11,12 +11,13 @@ use Rattle.sans.specs.Sans.{dnsAnd}
 unfoldable pub hasPublicSuffix : Lists → Bytes → Bool
 hasPublicSuffix l name = matched (l .publicSuffix) name
 
--- some DNS name of the SAN, once cleaned, matches the name; under a public suffix it must equal it
+-- a DNS name d, once cleaned, matches the name; where only an exact one will do, it equals it
+unfoldable pub namesClean : Bool → Bytes → Bytes → Bool
+namesClean exact name d = pick exact (eqList (cleanName d) name) (matchName (cleanName d) name)
+
+-- some DNS name of the SAN does; under a public suffix only an exact one will do
 unfoldable pub matchSan : Lists → San → Bytes → Bool
-matchSan l s name =
-    pick (hasPublicSuffix l name)
-    (any (dnsAnd (λ d. eqList (cleanName d) name)) (s .names))
-    (any (dnsAnd (λ d. matchName (cleanName d) name)) (s .names))
+matchSan l s name = any (dnsAnd (namesClean (hasPublicSuffix l name) name)) (s .names)
 
 -- the leaf is one for the host, if there is a host: its SAN is there and matches the cleaned host
 unfoldable pub hostNamed : Lists → Task → Cert → Bool
