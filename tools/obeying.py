@@ -129,7 +129,7 @@ def entries(variant, policy):
         "use mathlib.Core.Path.{_≡_, refl}",
         "use mathlib.Core.Logic.{_⊎_, _↔_}",
         "use mathlib.Core.List.{List}",
-        "use mathlib.Core.Bool.{Bool, true, not}",
+        "use mathlib.Core.Bool.{Bool, true, " + ("false, " if variant == "Chrome" else "") + "not}",
         *(["use lib.Dec.{eqb}"] if any("eqb" in t for _, t in policy["rules"].values()) else []),
         "use Rattle.model.specs.Model.{Chain, Lists}",
         *tests(policy),

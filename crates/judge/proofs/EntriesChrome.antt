@@ -3,7 +3,7 @@ use Prim.Native.Nat.{ℕ, _+_, _-_, _≤_, _<_}
 use mathlib.Core.Path.{_≡_, refl}
 use mathlib.Core.Logic.{_⊎_, _↔_}
 use mathlib.Core.List.{List}
-use mathlib.Core.Bool.{Bool, true, not}
+use mathlib.Core.Bool.{Bool, true, false, not}
 use Rattle.model.specs.Model.{Chain, Lists}
 use Rattle.fields.specs.Validity.{checkCertTime}
 use Rattle.fields.specs.Signatures.{outerInnerSigMatch}

@@ -26,9 +26,10 @@ use Rattle.faults.specs.declared.Tally.{Tally}
 use Rattle.faults.proofs.Theorems.{reported}
 use Rattle.rules.proofs.Laws.{no-more}
 use Rattle.rules.specs.Rules.{broken, placesOf, rules, short}
-use Rattle.judge.specs.Judged.{NoFault, answerOf, Judging, BothVerdict}
+use Rattle.judge.specs.Judged.{NoFault, answerOf, Judging, Outcome, BothVerdict}
 use Rattle.rules.specs.declared.Policy.{Policy}
 use Rattle.judge.specs.declared.Answer.{Answer}
+use Rattle.judge.specs.declared.Answer.the-variants.{Refused}
 
 -- ---- the report
 -- whoever writes the index of a chain writes the whole report
@@ -66,9 +67,9 @@ module _ (w b : List ℕ) where
   policy-refused f = (refl, refl, f)
 
   -- so few certificates that 32 bits count them
-  pub few-enough : ChainVerdict w b Sound → countOf w certs < 4294967296
+  pub few-enough : {r : Checked} → ChainVerdict w b r → r ≡ Sound → countOf w certs < 4294967296
   unfolding ChainVerdict
-  few-enough v = omega (arith, few-certs w b v)
+  few-enough v e = omega (arith, few-certs w b (rw e at v))
 
 -- which case it is
 abbrev isSound : Checked → ℕ
@@ -77,26 +78,41 @@ isSound (RefusedBundle n j q) = 0
 
 module _ (w b pw pb : List ℕ) where
   -- a chain's bundle is not both sound and refused
-  torn : {A : Type 0} {n : ℕ} {j : Bundle} {q : Place} → ChainVerdict w b Sound → ChainVerdict w b (RefusedBundle n j q) → A
-  torn v u = absurd (omega (arith, ap isSound (chain-once w b _ _ v u)))
+  torn : {A : Type 0} (n : ℕ) (j : Bundle) (q : Place) → ChainVerdict w b Sound → ChainVerdict w b (RefusedBundle n j q) → A
+  torn n j q v u = absurd (omega (arith, ap isSound (chain-once w b Sound (RefusedBundle n j q) v u)))
 
   -- one verdict fits the two bundles
   pub both-once : (r s : Checked) → BothVerdict w b pw pb r → BothVerdict w b pw pb s → r ≡ s
   both-once Sound Sound u v = refl
-  both-once Sound (RefusedBundle n j q) u (inl v) = torn (u .0) v
-  both-once Sound (RefusedBundle n j q) u (inr v) = policy-once pw pb _ _ (u .1) (v .1)
-  both-once (RefusedBundle n j q) Sound (inl u) v = torn (v .0) u
-  both-once (RefusedBundle n j q) Sound (inr u) v = policy-once pw pb _ _ (u .1) (v .1)
-  both-once (RefusedBundle n j q) (RefusedBundle m k p) (inl u) (inl v) = chain-once w b _ _ u v
-  both-once (RefusedBundle n j q) (RefusedBundle m k p) (inl u) (inr v) = torn (v .0) u
-  both-once (RefusedBundle n j q) (RefusedBundle m k p) (inr u) (inl v) = torn (u .0) v
-  both-once (RefusedBundle n j q) (RefusedBundle m k p) (inr u) (inr v) = policy-once pw pb _ _ (u .1) (v .1)
+  both-once Sound (RefusedBundle n j q) u (inl v) = torn n j q (u .0) v
+  both-once Sound (RefusedBundle n j q) u (inr v) = policy-once pw pb Sound (RefusedBundle n j q) (u .1) (v .1)
+  both-once (RefusedBundle n j q) Sound (inl u) v = torn n j q (v .0) u
+  both-once (RefusedBundle n j q) Sound (inr u) v = policy-once pw pb (RefusedBundle n j q) Sound (u .1) (v .1)
+  both-once (RefusedBundle n j q) (RefusedBundle m k p) (inl u) (inl v) = chain-once w b (RefusedBundle n j q) (RefusedBundle m k p) u v
+  both-once (RefusedBundle n j q) (RefusedBundle m k p) (inl u) (inr v) = torn n j q (v .0) u
+  both-once (RefusedBundle n j q) (RefusedBundle m k p) (inr u) (inl v) = torn m k p (u .0) v
+  both-once (RefusedBundle n j q) (RefusedBundle m k p) (inr u) (inr v) = policy-once pw pb (RefusedBundle n j q) (RefusedBundle m k p) (u .1) (v .1)
 
   -- where the chain's bundle is sound, the policy's verdict is that of both
-  pub policy-decides : (r : Checked) → ChainVerdict w b Sound → PolicyVerdict pw pb r → BothVerdict w b pw pb r
-  policy-decides Sound c v = (c, v)
-  policy-decides (RefusedBundle n j q) c v = inr (c, v)
+  pub policy-decides : {s : Checked} (r : Checked) → s ≡ Sound → ChainVerdict w b s → PolicyVerdict pw pb r → BothVerdict w b pw pb r
+  policy-decides Sound e c v = (rw e at c, v)
+  policy-decides (RefusedBundle n j q) e c v = inr (rw e at c, v)
+
+  -- a chain's refusal is that of both
+  pub chain-decides : {r : Checked} (n : ℕ) (j : Bundle) (q : Place) → r ≡ RefusedBundle n j q → ChainVerdict w b r → BothVerdict w b pw pb (RefusedBundle n j q)
+  chain-decides n j q e v = inl (rw e at v)
 
   pub both-sound : NoFault (chainLayout w b) w b → NoFault (policyLayout pw pb) pw pb → BothVerdict w b pw pb Sound
   unfolding ChainVerdict PolicyVerdict
   both-sound c l = (c, l)
+
+  pub both-few-enough : {r : Checked} → BothVerdict w b pw pb r → r ≡ Sound → countOf w certs < 4294967296
+  both-few-enough v e = let u : BothVerdict w b pw pb Sound = rw e at v in few-enough w b {r = Sound} (u .0) refl
+
+-- ---- what follows from the check
+module _ (p : Policy) (c : Chain) (l : Lists) {r : Checked} {old new : List ℕ} {a : Answer} where
+  pub sound-outcome : r ≡ Sound → Judging p c l old new a → Outcome p c l r old new a
+  sound-outcome e j = rw e j
+
+  pub refused-outcome : (n : ℕ) (j : Bundle) (q : Place) → r ≡ RefusedBundle n j q → a ≡ Refused n j q → new ≡ old → Outcome p c l r old new a
+  refused-outcome n j q e h k = rw e (h, k)

@@ -334,7 +334,7 @@ fn judge_checked(
     pbytes: &[u8],
     report: &mut [u32],
 ) -> Answer
-    requires { ⌜ checked ≡ Sound → countOf (now words) certs < 4294967296 ⌝ }
+    requires { ⌜ (checked ≡ Sound → countOf (now words) certs < 4294967296) ⌝ }
     ensures { λ a. ⌜ Outcome policy (chainOf (now (words .entry)) (now (bytes .entry))) (listsOf (now (pwords .entry)) (now (pbytes .entry))) checked (now (report .entry)) (now (report .exit)) a ⌝ }
 {
     match checked {

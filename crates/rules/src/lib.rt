@@ -45,8 +45,20 @@ fn key_holds(policy: Policy, words: &[u64], bytes: &[u8], c: CertRow) -> bool
     ensures { λ r. ⌜ r ≡ checkCertKeyLevel leastBits (dsaAllowed policy) (certAt (now (words .entry)) (now (bytes .entry)) (c .0)) ⌝ }
 {
     match policy {
-        Policy::OpenSsl => fields::key_level::check_cert_key_level(words, bytes, LEAST_BITS, true, c),
-        Policy::Chrome => fields::key_level::check_cert_key_level(words, bytes, LEAST_BITS, false, c),
+        Policy::OpenSsl => fields::key_level::check_cert_key_level(
+            words,
+            bytes,
+            LEAST_BITS,
+            true,
+            c,
+        ),
+        Policy::Chrome => fields::key_level::check_cert_key_level(
+            words,
+            bytes,
+            LEAST_BITS,
+            false,
+            c,
+        ),
     }
 }
 
@@ -180,7 +192,17 @@ fn breaks_at(
         return !roots::symantec::symantec_holds(words, bytes, pwords, pbytes);
     }
     let root = is_root(words, bytes, i);
-    !holds_at(policy, rule, i, root, row_of(i), words, bytes, pwords, pbytes)
+    !holds_at(
+        policy,
+        rule,
+        i,
+        root,
+        row_of(i),
+        words,
+        bytes,
+        pwords,
+        pbytes,
+    )
 }
 
 // Whether a rule is broken between two.
@@ -196,7 +218,17 @@ fn breaks_between(
 ) -> bool
     ensures { λ r. ⌜ r ≡ brokenBetween policy (chainOf (now (words .entry)) (now (bytes .entry))) (listsOf (now (pwords .entry)) (now (pbytes .entry))) (rule .0) (i .0) (j .0) ⌝ }
 {
-    !holds_between(policy, rule, j, row_of(i), row_of(j), words, bytes, pwords, pbytes)
+    !holds_between(
+        policy,
+        rule,
+        j,
+        row_of(i),
+        row_of(j),
+        words,
+        bytes,
+        pwords,
+        pbytes,
+    )
 }
 
 // Whether a rule is broken at a spot.
