@@ -6,9 +6,13 @@ use Rattle.laws.specs.Lists.{any, all, each, rows, run}
 use Rattle.text.specs.Bytes.{lowerByte}
 use Rattle.text.specs.Texts.{Text, quoted, lowered, startsWith, endsWith, covers}
 use Rattle.patterns.specs.Address.{maskedEqual, agreesAt, inRange, ipAddrInRange}
-use Rattle.patterns.specs.Patterns.{matchName, oneLabel, finalDotOff, cleanName}
+use Rattle.patterns.specs.Patterns.{matchName, oneLabel, finalDotOff, cleanName, permitName}
 use Rattle.roots.specs.Calendar.{spanValid}
 use Rattle.patterns.proofs.Ranges.{other-lengths}
+use Rattle.sans.specs.Sans.{isKind, dnsAnd}
+use Rattle.covering.specs.Covers.{dnsCovers, overDns}
+use Rattle.constraints.specs.Match.{allowed, checkDnsNameConstraints, askedName, ncMatch}
+use Rattle.constraints.specs.Keeps.{checkSanConstraints}
 use Rattle.specimens.specs.Specimens.{Specimens}
 
 star-alone : (name : Text) → matchName (quoted "*.") name ≡ false
@@ -16,7 +20,7 @@ unfolding matchName startsWith each
 star-alone name = refl
 
 pub specimens : Specimens
-unfolding matchName oneLabel startsWith endsWith covers cleanName finalDotOff lowered lowerByte ipAddrInRange inRange agreesAt maskedEqual spanValid any all each rows run
+unfolding matchName oneLabel startsWith endsWith covers cleanName finalDotOff permitName lowered lowerByte isKind dnsAnd dnsCovers overDns allowed checkDnsNameConstraints askedName ncMatch checkSanConstraints ipAddrInRange inRange agreesAt maskedEqual spanValid any all each rows run
 specimens = record {
   star-apex = refl;
   star-label = refl;
@@ -32,6 +36,8 @@ specimens = record {
   covers-no-part = refl;
   dot-covers-no-apex = refl;
   one-dot-off = refl;
+  two-dots-pass = refl;
+  three-dots-fail = refl;
   range-holds = refl;
   range-of-eight = λ range address e f. rw (other-lengths range address 4 (λ g h. omega arith), other-lengths range address 16 (λ g h. omega arith)) refl;
 }

@@ -1,4 +1,4 @@
--- Document 01's specimens that are proved, one line each, in its order. Chrome's cleaning of SAN names is not in it yet. Assumes nothing.
+-- Document 01's specimens that are proved, one line each, in its order. Assumes nothing.
 use Prim.Native.Nat.{ℕ, _+_}
 use mathlib.Core.Path.{_≡_}
 use mathlib.Core.List.{List, [], _∷_}
@@ -8,6 +8,13 @@ use Rattle.text.specs.Texts.{Text, quoted, covers}
 use Rattle.patterns.specs.Address.{ipAddrInRange}
 use Rattle.patterns.specs.Patterns.{matchName, cleanName}
 use Rattle.roots.specs.Calendar.{spanValid}
+use Rattle.model.specs.Model.{dns, noMark, San}
+use Rattle.covering.specs.declared.dns.Covering.the-variants.{Cleaned}
+use Rattle.constraints.specs.Keeps.{checkSanConstraints}
+
+-- a SAN with one DNS name
+abbrev pub sanOf : Text → San
+sanOf name = record { mark = noMark; names = dns name ∷ [] }
 
 pub record Specimens : Type 0 where
   -- `*.a.com` matches a.com and x.a.com, not x.y.a.com, not .a.com
@@ -30,6 +37,9 @@ pub record Specimens : Type 0 where
   pub dot-covers-no-apex : covers (quoted ".a.com") (quoted "a.com") ≡ false
   -- `a.com..` cleans to `a.com.`
   pub one-dot-off : cleanName (quoted "a.com..") ≡ quoted "a.com."
+  -- in Chrome's SAN constraints names are cleaned just twice: under the permitted name a.com, `a.com..` passes (once would not do) and `a.com...` fails (three times would do)
+  pub two-dots-pass : checkSanConstraints Cleaned (dns (quoted "a.com") ∷ []) [] (sanOf (quoted "a.com..")) ≡ true
+  pub three-dots-fail : checkSanConstraints Cleaned (dns (quoted "a.com") ∷ []) [] (sanOf (quoted "a.com...")) ≡ false
   -- 10.0.0.0/255.0.0.0 holds 10.1.2.3; an 8-byte range never holds 16 bytes
   pub range-holds : ipAddrInRange (10 ∷ 0 ∷ 0 ∷ 0 ∷ 255 ∷ 0 ∷ 0 ∷ 0 ∷ []) (10 ∷ 1 ∷ 2 ∷ 3 ∷ []) ≡ true
   pub range-of-eight : (range address : List ℕ) → length range ≡ 8 → length address ≡ 16 → ipAddrInRange range address ≡ false

@@ -8,7 +8,7 @@ matches-requires c κs = search needs
 
 returns : tie.Need-returns
 unfolding hasPublicSuffix
-returns c = cc
+returns c = c .matches .ensures
 
 pub has-public-suffix-spec : {M : Type 1} → statement M
 has-public-suffix-spec = tie.close (tie.spec matches-requires returns)
