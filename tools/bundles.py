@@ -413,18 +413,17 @@ LIST_TEXTS = {
     "anssi_trusted": [b"F7"],
     "anssi_domains": [b"*.fr"],
 }
-POLICY_TEXTS = [text for texts in LIST_TEXTS.values() for text in texts]
 
 
-def policy(order=POLICY_SECTIONS):
-    """The good policy: each list has its own entries and each entry its own string."""
+def policy(order=POLICY_SECTIONS, lists=LIST_TEXTS):
+    """A policy: each list has its own entries and each entry its own string."""
     header = [EDITION] + [0] * (POLICY_HEADER - 1)
-    first = 0
-    for name, texts in LIST_TEXTS.items():
-        header[LISTS[name]], header[LISTS[name] + 1] = first, len(texts)
-        first += len(texts)
-    section_rows = {S: string_rows(POLICY_TEXTS), L: [(number,) for number in range(len(POLICY_TEXTS))]}
-    return laid_out(header, section_rows, order, b"".join(POLICY_TEXTS))
+    texts = []
+    for name, entries in lists.items():
+        header[LISTS[name]], header[LISTS[name] + 1] = len(texts), len(entries)
+        texts += entries
+    section_rows = {S: string_rows(texts), L: [(number,) for number in range(len(texts))]}
+    return laid_out(header, section_rows, order, b"".join(texts))
 
 
 def empty_policy():

@@ -1,32 +1,27 @@
 #!/bin/sh
-# judge.sh [FILE]: judges the bundle file FILE as an OpenSSL client would, and builds first what that needs.
-# The status with FILE: 0 accepted, 1 a rule is broken, 2 it can't be judged, 3 the bundle is refused.
-# Without FILE it judges samples/broken.bundle; the status is then 0 if that is found broken, as it should be.
+# judge.sh POLICY CHAIN [LISTS]: judges the bundle file CHAIN by POLICY, openssl or chrome, and builds first what that needs.
+# chrome takes LISTS too, the bundle file of its lists. The status: 0 accepted, 1 a rule is broken, 2 it can't be judged, 3 a bundle is refused.
+# Without arguments it judges two real chains, a good one and a bad one; the status is then 0 if they are found so.
 set -eu
-if [ $# -gt 1 ]; then
-    echo "judge.sh: give one bundle file, or none for the sample: tools/judge.sh [FILE]" >&2
-    exit 2
-fi
 top=$(cd "$(dirname "$0")/.." && pwd)
-cc=${CC:-cc}
-program=$top/target/judge
-library=$top/target/native/libudrasmil.a
-source=$top/examples/judge.c
-header=$top/include/udrasmil.h
-
+command -v cargo >/dev/null || {
+    echo "missing tool: cargo, Rust's build tool. Put it on the PATH and run this again." >&2
+    exit 2
+}
 "$top/tools/library.sh" || exit 2
-if [ ! -f "$program" ] || [ -n "$(find "$library" "$source" "$header" -newer "$program" -print -quit)" ]; then
-    command -v "$cc" >/dev/null || {
-        echo "missing tool: $cc, a C compiler. Install one, or name yours in CC, and run this again." >&2
-        exit 2
-    }
-    "$cc" -std=c99 -O2 -Wall -Wextra -Wpedantic "-I$top/include" "$source" "$library" -o "$program" || exit 2
-fi
+CARGO_TARGET_DIR="$top/target/rust" UDRASMIL_LIBRARY="$top/target/native" \
+    cargo build --manifest-path "$top/rust/Cargo.toml" --release --offline -q -p judge || exit 2
+program=$top/target/rust/release/judge
 
-if [ $# -eq 1 ]; then
-    exec "$program" "$1"
+if [ $# -gt 0 ]; then
+    exec "$program" "$@"
 fi
-echo "samples/broken.bundle, a chain of two:"
-status=0
-"$program" "$top/samples/broken.bundle" || status=$?
-[ "$status" -eq 1 ] || exit 2
+for name in valid expired; do
+    echo "samples/$name.bundle, a real chain of three:"
+    status=0
+    "$program" openssl "$top/samples/$name.bundle" || status=$?
+    case $name$status in
+        valid0 | expired1) ;;
+        *) exit 2 ;;
+    esac
+done

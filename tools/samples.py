@@ -2,15 +2,17 @@
 """samples.py [--check]: writes the sample bundles; with --check it only compares.
 
 A sample is a chain bundle with the answer and the report that document 01 gives it. Each has a file in samples/, and all
-four stand one after the other in the file that the program `witnesses` reads. A bundle in a file is: the count of its
-words, the count of its bytes, the words, the bytes. Counts and words have eight bytes each, the low byte first."""
+four stand one after the other in the file that the program `witnesses` reads. Two more chain bundles are written from
+real certificates in PEM form, and a policy bundle for Chrome's judge."""
 import pathlib
-import struct
 import sys
 from typing import NamedTuple
 
 import bundles
-from bundles import A, C, CHAIN_SECTIONS, DNS, EDITION, G, HOST, R, S, U, Bundle
+import packing
+import pem
+from bundles import A, C, DNS, G, R, S, U, Bundle
+from packing import packed, ranges
 
 TOP = pathlib.Path(__file__).resolve().parent.parent
 NONE = 65_535
@@ -38,23 +40,8 @@ class Cert(NamedTuple):
     bits: int = 2048
 
 
-class Sections:
-    """The rows of a chain bundle while it grows. Equal strings stand once."""
-
-    def __init__(self):
-        self.texts = []
-        self.rows = {section: [] for section in CHAIN_SECTIONS}
-
-    def string(self, text):
-        if text not in self.texts:
-            self.texts.append(text)
-        return self.texts.index(text)
-
-    def added(self, section, rows):
-        """The range of rows that are put behind those of a section: first, count."""
-        first = len(self.rows[section])
-        self.rows[section] += rows
-        return first, len(rows)
+class Sections(packing.Sections):
+    """The rows of a sample while it grows."""
 
     def dn(self, common_name):
         """A distinguished name of one RDN with one attribute."""
@@ -88,19 +75,12 @@ class Sections:
         return words
 
 
-def ranges(given):
-    """The two words of each range, given by its first word."""
-    return {word + step: value for word, pair in given.items() for step, value in enumerate(pair)}
-
-
 def chain(host, certs):
     """The bundle of a chain, the leaf first."""
-    sections = Sections()
-    header = [EDITION] + [0] * (HOST - 1) + [sections.string(host) + 1, 0, NOW]
+    sections = Sections(host)
     for cert in certs:
         sections.add(cert)
-    sections.rows[S] = bundles.string_rows(sections.texts)
-    return bundles.laid_out(header, sections.rows, CHAIN_SECTIONS, b"".join(sections.texts))
+    return sections.bundle(NOW)
 
 
 LEAF = Cert(b"Server", b"Middle CA", hosts=(b"a.com", b"*.a.com"))
@@ -148,15 +128,39 @@ SAMPLES = (
 )
 
 
-def packed(bundle):
-    numbers = (len(bundle.words), len(bundle.data), *bundle.words)
-    return struct.pack(f"<{len(numbers)}Q", *numbers) + bundle.data
+class Real(NamedTuple):
+    """A real chain: the PEM file of its name has the certificates."""
+
+    name: str
+    host: bytes
+    now: int
+
+    def certificates(self):
+        return pem.blocks(TOP / f"samples/{self.name}.pem")
+
+    def bundle(self):
+        return pem.bundle(self.certificates(), self.host, self.now)
+
+
+FEBRUARY_2025 = 1_740_304_936
+VALID = Real("valid", b"valid.rootca1.demo.amazontrust.com", FEBRUARY_2025)
+EXPIRED = Real("expired", b"expired.rootca1.demo.amazontrust.com", FEBRUARY_2025)
+
+
+def policy():
+    """Short lists: the root of the real chains is known, and the expired leaf revoked."""
+    root, leaf = VALID.certificates()[-1], EXPIRED.certificates()[0]
+    few = {"public_suffix": [b"com", b"*.uk"], "india_domains": [b"*.gov.in"], "anssi_domains": [b"*.fr"]}
+    few |= {"known_roots": [pem.fingerprint(root)], "crl": [pem.fingerprint(leaf)]}
+    return bundles.policy(lists={name: few.get(name, []) for name in bundles.LISTS})
 
 
 def files():
     """Each path that this script writes, with what it writes there."""
     each = {f"samples/{sample.name}.bundle": packed(sample.bundle) for sample in SAMPLES}
-    return each | {"crates/witnesses/data/samples": b"".join(each.values())}
+    real = {f"samples/{chain.name}.bundle": packed(chain.bundle()) for chain in (VALID, EXPIRED)}
+    rest = {"samples/policy.bundle": packed(policy()), "crates/witnesses/data/samples": b"".join(each.values())}
+    return each | real | rest
 
 
 def main():

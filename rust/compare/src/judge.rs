@@ -15,7 +15,7 @@ pub enum Which {
 pub struct Judge {
     pub name: String,
     pub openssl: Openssl,
-    /// The proved library has no Chrome judge yet.
+    /// None where the proved library is linked without it.
     pub chrome: Option<Chrome>,
 }
 
@@ -73,7 +73,7 @@ pub fn named(name: &str) -> Option<Judge> {
 
 #[cfg(feature = "library")]
 pub fn library() -> Option<Judge> {
-    Some(Judge { name: "library".into(), openssl: crate::library::judge_openssl, chrome: None })
+    Some(Judge { name: "library".into(), openssl: udrasmil::raw::openssl, chrome: udrasmil::raw::CHROME })
 }
 
 #[cfg(not(feature = "library"))]

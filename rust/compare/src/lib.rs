@@ -3,9 +3,6 @@
 pub mod judge;
 pub mod statistics;
 
-#[cfg(feature = "library")]
-mod library;
-
 use generate::{case, Case};
 use judge::{Judge, Which};
 
