@@ -34,6 +34,7 @@ fn names_clean(exact: bool, host: &[u8], name: &[u8]) -> bool
     patterns::names::match_name(Letters::Lowered, part, host)
 }
 
+// Whether a name is a DNS name that does.
 fn dns_names(words: &[u64], bytes: &[u8], n: NameNo, exact: bool, host: &[u8]) -> bool
     ensures { λ r. ⌜ r ≡ dnsAnd (namesClean exact (lowered (now (host .entry)))) (generalAt (now (words .entry)) (now (bytes .entry)) (n .0)) ⌝ }
 {
@@ -43,6 +44,7 @@ fn dns_names(words: &[u64], bytes: &[u8], n: NameNo, exact: bool, host: &[u8]) -
     false
 }
 
+// Whether some name of a range is one that does.
 fn any_dns_names(words: &[u64], bytes: &[u8], r: Range, exact: bool, host: &[u8]) -> bool
     ensures { λ t. ⌜ t ≡ any (dnsAnd (namesClean exact (lowered (now (host .entry))))) (generalsIn (now (words .entry)) (now (bytes .entry)) r) ⌝ }
 {
