@@ -1,0 +1,141 @@
+#!/usr/bin/env python3
+"""audit.py [ROOT]: what docs/AUDIT.md promises of every public function, held to the sources. It prints each gap and fails if there is one.
+
+- A public function has a row, an `ensures` and no `requires`. Its row names two wrong bodies, and the edits that stand in bold are in a must-fail folder. A row
+  has its function, and an edit its row or its mention.
+- A parameter that is a number by itself is one of NUMBERS: what names a string, a certificate, a rule or a row has a type of its own.
+- No definition in specs/ gives a symbol of the library a meaning of its own.
+- No log of a must-fail edit says that a name is missing: such an edit only unfits its proof file. The logs are those of the last `rt ci` in target/."""
+import pathlib
+import re
+import sys
+
+TOP = pathlib.Path(sys.argv[1] if sys.argv[1:] else pathlib.Path(__file__).resolve().parent.parent)
+AUDIT = "docs/AUDIT.md"
+
+# Parameters that are plain numbers, by what they are: words and bytes of a bundle, counts, places of words, dates.
+NUMBERS = {
+    "at": "the place of a word",
+    "begin": "a date",
+    "broken": "a test's answer",
+    "class": "a byte's class",
+    "count": "a count of rows",
+    "end": "a date",
+    "f": "the place of a word in a row",
+    "first": "the first row of a range, before it is cut",
+    "least": "a least size",
+    "length": "a length in the bytes",
+    "n": "a count of certificates or of rows",
+    "row": "a row of any section",
+    "start": "a place in the bytes",
+    "word": "a word of a bundle",
+    "x": "a byte",
+}
+INTEGER = re.compile(r"^(u8|u16|u32|u64|usize|i64)$")
+
+# What the library means by a symbol, no definition may change.
+SYMBOLS = {"_≡_", "_<_", "_≤_", "_+_", "_-_", "_*_", "length", "take", "drop", "getD", "_&&_", "_||_", "not", "true", "false", "leb", "ltb", "eqb", "_×_", "_⊎_", "_↔_", "_++_", "map"}
+
+FUNCTION = re.compile(r'^( *)pub (?:extern "C" )?fn (\w+)(?:<[^>]*>)?\((.*?)\)(.*?)\n\1\{', re.DOTALL | re.MULTILINE)
+DEFINED = re.compile(r"^\s*(?:unfoldable |abbrev )?(?:pub )?(?:record |data )?(\S+)\s*(?:\(.*\))?\s*:", re.MULTILINE)
+ROW = re.compile(r"^\| `([\w:]+)` \|(.*)\|$", re.MULTILINE)
+BOLD = re.compile(r"\*\*(\w+)\*\*")
+
+
+def crates():
+    for line in (TOP / "crates.txt").read_text().splitlines():
+        if line and not line.startswith("#"):
+            yield line.split(":")[0]
+
+
+def path_of(crate, file, text, at):
+    """The name of a function, by which a caller names it."""
+    inner = [] if file.stem in ("lib", "main") else list(file.relative_to(TOP / "crates" / crate / "src").with_suffix("").parts)
+    kind = re.findall(r"^impl (\w+) \{", text[:at], re.MULTILINE)
+    return "::".join([crate, *inner, *(kind[-1:] if text[at] == " " else [])])
+
+
+def functions():
+    """Each public function: its name, its parameters, and what stands between them and its body."""
+    for crate in crates():
+        for file in sorted((TOP / "crates" / crate / "src").rglob("*.rt")):
+            text = file.read_text()
+            for found in FUNCTION.finditer(text):
+                yield f"{path_of(crate, file, text, found.start())}::{found[2]}", found[3], found[4]
+
+
+def parameters(text):
+    for part in text.split(","):
+        if ":" in part:
+            name, kind = part.split(":", 1)
+            yield name.strip(), kind.strip()
+
+
+def edits():
+    return {edit.stem: edit for edit in TOP.glob("crates/*/must-fail/*.edit")} | {edit.stem: edit for edit in TOP.glob("crates/*/mixed/*.edit")}
+
+
+def function_gaps(rows, kept):
+    seen = set()
+    for name, takes, contract in functions():
+        seen.add(name)
+        if "ensures" not in contract:
+            yield f"{name} has no ensures"
+        if "requires" in contract:
+            yield f"{name} has a requires"
+        for parameter, kind in parameters(takes):
+            if INTEGER.match(kind) and parameter not in NUMBERS:
+                yield f"{name}: `{parameter}` is a bare {kind}; give it a type of its own, or say in tools/audit.py what number it is"
+        if name not in rows:
+            yield f"{name} has no row in {AUDIT}"
+        else:
+            yield from row_gaps(name, rows[name], kept)
+    for name in rows.keys() - seen:
+        yield f"{AUDIT} has a row for {name}, and there is no such public function"
+
+
+def row_gaps(name, row, kept):
+    cells = [cell.strip() for cell in row.split("|")]
+    if len(cells) != 3 or not all(cells):
+        yield f"{name}: its row wants a contract, why there is one answer, and wrong bodies"
+        return
+    named = BOLD.findall(cells[2])
+    if not named:
+        yield f"{name}: its row names no edit that is kept"
+    for edit in named:
+        if edit not in kept:
+            yield f"{name}: there is no edit {edit}"
+    if len(re.findall(r"[.,](?: |$)", cells[2])) < 2:
+        yield f"{name}: its row names fewer than two wrong bodies"
+
+
+def edit_gaps(text, kept):
+    for edit in sorted(kept):
+        if f"**{edit}**" not in text:
+            yield f"the edit {kept[edit].relative_to(TOP)} is not named in {AUDIT}"
+
+
+def symbol_gaps():
+    for file in sorted(TOP.glob("crates/*/specs/*.antt")):
+        for name in DEFINED.findall(file.read_text()):
+            if name in SYMBOLS:
+                yield f"{file.relative_to(TOP)} gives {name} a meaning of its own"
+
+
+def log_gaps():
+    for log in sorted((TOP / "target" / "must-fail").glob("*/*.out")):
+        if "that can be named from here" in log.read_text(errors="replace"):
+            yield f"the edit {log.parent.name}/{log.stem} only unfits its proof file"
+
+
+def main():
+    text = (TOP / AUDIT).read_text()
+    kept = edits()
+    gaps = [*function_gaps(dict(ROW.findall(text)), kept), *edit_gaps(text, kept), *symbol_gaps(), *log_gaps()]
+    for gap in gaps:
+        print(gap)
+    if gaps:
+        sys.exit(f"{len(gaps)} gaps in the audit")
+
+
+main()
