@@ -1,6 +1,6 @@
 /*
  * judge FILE: judges the chain in a bundle file as an OpenSSL client would, and says what is wrong with it.
- * samples/README.md has the form of the file. `tools/judge.sh` builds this program and runs it.
+ * samples/README.md has the form of the file. `tools/front_door.py` builds this program and tries it on the samples.
  * Its status: 0 accepted, 1 a rule is broken, 2 FILE can't be read, 3 the bundle is refused.
  */
 #include "udrasmil.h"

@@ -53,7 +53,7 @@ class Chain(Sections):
         self.rows[C].append(bundles.certificate(words))
 
     def signed_part(self, fields, signed_with):
-        """The words of the part that is signed, in the order in which they stand there but for the dates."""
+        """The words of the part that is signed. The algorithm of the signature stands outside of it too."""
         version = fields.optional(context(0, True))
         serial = fields.take(der.INTEGER).content
         algorithm = fields.take(der.SEQUENCE).whole
@@ -210,8 +210,11 @@ def blocks(path):
     """The certificates in a PEM file."""
     found = BLOCK.findall(path.read_bytes())
     if not found:
-        raise Malformed("there is no certificate in PEM form")
-    return [base64.b64decode(b"".join(block.split()), validate=True) for block in found]
+        raise Malformed(f"{path}: there is no certificate in PEM form")
+    try:
+        return [base64.b64decode(b"".join(block.split()), validate=True) for block in found]
+    except binascii.Error as wrong:
+        raise Malformed(f"{path}: a certificate is no base64: {wrong}") from None
 
 
 def bundle(certificates, host, now):
@@ -252,7 +255,7 @@ def main():
     try:
         certificates = [certificate for path in given.pem for certificate in blocks(path)]
         given.out.write_bytes(packed(bundle(certificates, given.host, given.at)))
-    except (Malformed, OSError, binascii.Error) as wrong:
+    except (Malformed, OSError) as wrong:
         sys.exit(f"pem.py: {wrong}")
 
 

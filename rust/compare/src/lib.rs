@@ -46,24 +46,22 @@ pub fn first_difference(one: &Judge, other: &Judge, seed: u64, cases: u64) -> Op
     for index in 0..cases {
         let case = case(seed, index);
         for &which in one.policies(other) {
-            let (left, right) = (outcome(one, which, &case), outcome(other, which, &case));
-            if left != right || !left.rest_is_untouched() {
-                return Some(told(index, which, &left, &right));
+            if let Some(told) = difference(one, other, which, &case) {
+                return Some(format!("case {index}, {which:?}\n{told}"));
             }
         }
     }
     None
 }
 
-fn told(index: u64, which: Which, left: &Outcome, right: &Outcome) -> String {
+/// The answers and reports of two judges, if they differ or if words beside an entry are touched.
+pub fn difference(one: &Judge, other: &Judge, which: Which, case: &Case) -> Option<String> {
+    let (left, right) = (outcome(one, which, case), outcome(other, which, case));
     let lent = |outcome: &Outcome| outcome.buffer[GUARD..outcome.buffer.len() - GUARD].to_vec();
-    format!(
-        "case {index}, {which:?}\n  {:?}\n  {:?}\n  reports {:?}\n          {:?}",
-        left.answer,
-        right.answer,
-        lent(left),
-        lent(right)
-    )
+    (left != right || !left.rest_is_untouched()).then(|| {
+        let (answers, reports) = ((left.answer, right.answer), (lent(&left), lent(&right)));
+        format!("  {:?}\n  {:?}\n  reports {:?}\n          {:?}", answers.0, answers.1, reports.0, reports.1)
+    })
 }
 
 /// In how many cases each judge differs from the first. A judge that panics differs too.

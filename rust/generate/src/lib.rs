@@ -17,6 +17,7 @@ use rng::Rng;
 use write::{Bundle, Layout};
 
 /// What a judge is given.
+#[derive(Clone)]
 pub struct Case {
     pub words: Vec<u64>,
     pub bytes: Vec<u8>,

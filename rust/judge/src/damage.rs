@@ -8,7 +8,7 @@ use udrasmil::{Bundle, Refusal, Word};
 const MOST_WORDS: usize = 8192;
 const MOST_BYTES: usize = 65_536;
 const MOST_CERTIFICATES: u64 = 16;
-const MOST_CODE_OF_VERSION: u64 = u32::MAX as u64;
+const MOST_VERSION: u64 = u32::MAX as u64;
 
 /// Three texts for a reader who has the bundle's form at hand.
 #[derive(Debug, PartialEq)]
@@ -178,7 +178,7 @@ fn over(content: &Content, value: u64, spot: &Spot) -> Option<Wrong> {
     let (most, due) = match (section.letter, field) {
         ("G", 0) => (4, "0 DNS name, 1 directory name, 2 IP address, 3 another, or 4 an unsupported one"),
         ("U", _) => (7, "0 server, 1 client, 2 code signing, 3 e-mail, 4 time stamping, 5 OCSP, 6 any, or 7 another"),
-        ("C", 1) => (MOST_CODE_OF_VERSION, "a version of at most 32 bits; 2 is X.509 version 3"),
+        ("C", 1) => (MOST_VERSION, "a version of at most 32 bits; 2 is X.509 version 3"),
         ("C", 11) => (2, "0 RSA, 1 DSA, or 2 another"),
         ("C", 25 | 26) if of_row(24) != 0 => (1, "0 no, or 1 yes"),
         ("C", 29) if of_row(28) != 0 => (511, "the sum of the usages' bits, at most 511"),

@@ -13,13 +13,20 @@ pub struct Section {
     pub fields: &'static [&'static str],
 }
 
+/// Parts of the bytes. Both bundles have this section at the same place of their headers.
 pub static STRINGS: Section = Section { letter: "S", row: "string", count_word: 1, fields: &["start", "length"] };
+/// OIDs with their values.
 pub static ATTRIBUTES: Section = Section { letter: "A", row: "attribute", count_word: 3, fields: &["OID", "value"] };
+/// Sets of attributes; a distinguished name is a range of them.
 pub static RDNS: Section =
     Section { letter: "R", row: "RDN", count_word: 5, fields: &["first attribute", "count of attributes"] };
+/// Names in a SAN or an NC. By its kind, x is a string or, with y, a range of RDNs.
 pub static NAMES: Section = Section { letter: "G", row: "general name", count_word: 7, fields: &["kind", "x", "y"] };
+/// Usages in an EKU.
 pub static USAGES: Section = Section { letter: "U", row: "usage", count_word: 9, fields: &["code"] };
+/// The chain, the leaf first.
 pub static CERTIFICATES: Section = Section { letter: "C", row: "certificate", count_word: 11, fields: &FIELDS };
+/// What the lists of a policy are ranges of.
 pub static ENTRIES: Section = Section { letter: "L", row: "list entry", count_word: 3, fields: &["string"] };
 
 static CHAIN_SECTIONS: [&Section; 6] = [&STRINGS, &ATTRIBUTES, &RDNS, &NAMES, &USAGES, &CERTIFICATES];
@@ -27,7 +34,9 @@ static POLICY_SECTIONS: [&Section; 2] = [&STRINGS, &ENTRIES];
 
 /// The chain header's words behind its sections.
 const CHAIN_REST: [&str; 3] = ["host", "purpose", "now"];
+/// The chain header's word for the host.
 pub const HOST: usize = 13;
+/// The chain header's word for the purpose.
 pub const PURPOSE: usize = 14;
 
 /// The policy header's lists. Each has a word for its first entry and one for their count.
@@ -42,6 +51,7 @@ const LISTS: [&str; 9] = [
     "anssi_trusted",
     "anssi_domains",
 ];
+/// The policy header's word for the first list.
 pub const FIRST_LIST: usize = 5;
 
 /// The words of a certificate.
@@ -92,7 +102,7 @@ static FIELDS: [&str; 41] = [
 /// The words of a certificate that say whether a part is there.
 pub const MARKS: [usize; 9] = [15, 19, 21, 24, 28, 30, 33, 38, 39];
 
-/// What a word is.
+/// What a word is: one of the header, or one of a row.
 pub enum Spot {
     Header { bundle: Bundle, word: usize },
     Row { section: &'static Section, row: u64, field: usize },
@@ -106,6 +116,7 @@ pub fn header_words(bundle: Bundle) -> usize {
     }
 }
 
+/// The sections of a bundle, in the header's order.
 pub fn sections(bundle: Bundle) -> &'static [&'static Section] {
     match bundle {
         Bundle::Chain => &CHAIN_SECTIONS,

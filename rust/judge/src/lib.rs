@@ -10,7 +10,7 @@ mod names;
 mod telling;
 
 use file::Content;
-use std::ffi::OsString;
+use std::ffi::{OsStr, OsString};
 use telling::Case;
 use udrasmil::{openssl, Answer, Policy, Report, CHROME};
 
@@ -25,29 +25,30 @@ pub struct Said {
 /// Judges by the program's arguments; else says in one line why it can't.
 pub fn run(arguments: &[OsString]) -> Result<Said, String> {
     match arguments {
-        [policy, chain] if policy == "openssl" => {
-            let mut report = Report::new();
-            let chain = file::read(chain)?;
-            let answer = openssl(&chain.words, &chain.bytes, &mut report);
-            Ok(said(Policy::OpenSsl, &chain, &Content::default(), &answer, &report))
-        }
-        [policy, chain, lists] if policy == "chrome" => by_chrome(&file::read(chain)?, &file::read(lists)?),
+        [policy, chain] if policy == "openssl" => by_openssl(chain),
+        [policy, chain, lists] if policy == "chrome" => by_chrome(chain, lists),
         _ => Err("give a policy and its bundle files: judge openssl CHAIN, or judge chrome CHAIN LISTS".into()),
     }
 }
 
-fn by_chrome(chain: &Content, lists: &Content) -> Result<Said, String> {
-    let chrome = CHROME.ok_or("this program was built without Chrome's judge: judge by openssl")?;
-    let mut report = Report::new();
-    let answer = chrome(&chain.words, &chain.bytes, &lists.words, &lists.bytes, &mut report);
-    Ok(said(Policy::Chrome, chain, lists, &answer, &report))
+fn by_openssl(chain: &OsStr) -> Result<Said, String> {
+    let (chain, mut report) = (file::read(chain)?, Report::new());
+    let answer = openssl(&chain.words, &chain.bytes, &mut report);
+    Ok(said(&Case { policy: Policy::OpenSsl, chain, lists: Content::default() }, &answer, &report))
 }
 
-fn said(policy: Policy, chain: &Content, lists: &Content, answer: &Answer, report: &Report) -> Said {
+fn by_chrome(chain: &OsStr, lists: &OsStr) -> Result<Said, String> {
+    let chrome = CHROME.ok_or("this program was built without Chrome's judge: judge by openssl")?;
+    let (chain, lists, mut report) = (file::read(chain)?, file::read(lists)?, Report::new());
+    let answer = chrome(&chain.words, &chain.bytes, &lists.words, &lists.bytes, &mut report);
+    Ok(said(&Case { policy: Policy::Chrome, chain, lists }, &answer, &report))
+}
+
+fn said(case: &Case, answer: &Answer, report: &Report) -> Said {
     let status = match answer {
         Answer::Accepted => 0,
         Answer::Broken { .. } => 1,
         Answer::Refused { .. } => 3,
     };
-    Said { text: Case { policy, chain, lists }.told(answer, report), status }
+    Said { text: case.told(answer, report), status }
 }

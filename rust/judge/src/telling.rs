@@ -5,14 +5,14 @@ use crate::file::Content;
 use crate::names::called;
 use udrasmil::{Answer, Bundle, Entry, Place, Policy, Refusal, Report, Word};
 
-/// What was judged.
-pub struct Case<'a> {
+/// What was judged, and by whose rules. OpenSSL has no lists.
+pub struct Case {
     pub policy: Policy,
-    pub chain: &'a Content,
-    pub lists: &'a Content,
+    pub chain: Content,
+    pub lists: Content,
 }
 
-impl Case<'_> {
+impl Case {
     /// The lines of an answer and its report.
     pub fn told(&self, answer: &Answer, report: &Report) -> String {
         match *answer {
@@ -29,8 +29,8 @@ impl Case<'_> {
 
     fn entry(&self, Entry { rule, place }: &Entry) -> String {
         let place = match *place {
-            Place::Certificate(i) => format!("certificate {}", called(self.chain, i)),
-            Place::Pair(i, j) => format!("certificates {} and {}", called(self.chain, i), called(self.chain, j)),
+            Place::Certificate(i) => format!("certificate {}", called(&self.chain, i)),
+            Place::Pair(i, j) => format!("certificates {} and {}", called(&self.chain, i), called(&self.chain, j)),
             Place::Nothing | Place::Word(_) => "the chain as a whole".into(),
         };
         format!("rule {rule}, {place}: {}\n", rule.sentence(self.policy))
@@ -38,8 +38,8 @@ impl Case<'_> {
 
     fn refused(&self, refusal: Refusal, bundle: Bundle, word: Word) -> String {
         let (content, whose) = match bundle {
-            Bundle::Chain => (self.chain, "the chain's bundle"),
-            Bundle::Policy => (self.lists, "the policy's bundle"),
+            Bundle::Chain => (&self.chain, "the chain's bundle"),
+            Bundle::Policy => (&self.lists, "the policy's bundle"),
         };
         let found = damage(refusal, bundle, word, content);
         [
