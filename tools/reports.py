@@ -63,7 +63,7 @@ LOOPS = {
     "write_each": {"call": "write_one", "turn": "asked T (rule .0) (certificate (i₀ + k))", "var": "i", "bound": "to", "takes": "rule to", "law": "each-turn"},
     "write_neighbours": {"call": "write_one", "turn": "asked T (rule .0) (pair k (k + 1))", "var": "i", "bound": "to", "takes": "rule to", "next": True},
     "write_row": {"call": "write_one", "turn": "asked T (rule .0) (pair (i .0) k)", "var": "j", "bound": "to", "takes": "rule i", "locals": "to", "opens": "row"},
-    "write_pairs": {"call": "write_row", "turn": "row T (rule .0) (i₀ + k) (i₀ + k)", "var": "i", "bound": "to", "takes": "rule to", "law": "pairs-turn"},
+    "write_pairs": {"call": "write_row_asked", "turn": "row T (rule .0) (i₀ + k) (i₀ + k)", "var": "i", "bound": "to", "takes": "rule to", "law": "pairs-turn"},
     "write_rules": {"call": "write_rule", "turn": "entriesAt T (P k) k n", "var": "r", "bound": "rules", "takes": "n", "opens": "index"},
 }
 

@@ -1,9 +1,10 @@
 -- What the proofs of the judge's functions rest on. Assumes nothing.
-use Prim.Native.Nat.{ℕ, _<_, _≤_}
+use Prim.Native.Nat.{ℕ, zero, suc, _<_, _≤_}
 use native.Mathlib.Omega.{arith}
 use mathlib.Core.Path.{_≡_, refl, ap, subst}
 use mathlib.Core.Logic.{inl, inr}
-use mathlib.Core.List.{List}
+use mathlib.Core.List.{List, []}
+use mathlib.Core.Bool.{true}
 use borrow.Author.Tests.{ltb-false}
 use Rattle.laws.proofs.Tests.{or-right}
 use Rattle.table.specs.Table.{countOf}
@@ -19,13 +20,14 @@ use Rattle.sound.proofs.Verdicts.{one-verdict}
 use Rattle.sound.specs.declared.Checked.{Checked}
 use Rattle.sound.specs.declared.Checked.the-variants.{Sound, Refused as RefusedBundle}
 use Rattle.decoded.proofs.Gives.{in-limits}
-use Rattle.faults.specs.Index.{fullIndex}
+use Rattle.faults.specs.Index.{gather, asked, row, fullIndex}
 use Rattle.faults.specs.Order.{Reported}
-use Rattle.faults.specs.Report.{Wrote}
+use Rattle.faults.specs.Report.{one, Wrote, noneYet}
 use Rattle.faults.specs.declared.Tally.{Tally}
+use Rattle.faults.proofs.Laws.{wrote-none}
 use Rattle.faults.proofs.Theorems.{reported}
-use Rattle.rules.proofs.Laws.{no-more}
-use Rattle.rules.specs.Rules.{broken, placesOf, rules, short}
+use Rattle.rules.proofs.Laws.{no-more, asks-nothing}
+use Rattle.rules.specs.Rules.{broken, asksNothing, placesOf, rules, short}
 use Rattle.judge.specs.Judged.{NoFault, answerOf, Judging, Outcome, BothVerdict}
 use Rattle.rules.specs.declared.Policy.{Policy}
 use Rattle.judge.specs.declared.Answer.{Answer}
@@ -38,6 +40,14 @@ whole p c l {n} = reported short (broken p c l) (placesOf p) rules n (no-more p)
 
 pub judging : (p : Policy) (c : Chain) (l : Lists) {n : ℕ} {old new : List ℕ} {t : Tally} {a : Answer} → n ≡ c .count → Reported short (broken p c l) (placesOf p) n old new t → a ≡ answerOf t → Judging p c l old new a
 judging p c l {old = old} {new = new} {t = t} e r h = record { tally = t; reported = subst (λ (k : ℕ). Reported short (broken p c l) (placesOf p) k old new t) e r; answer-is = h }
+
+-- a row of pairs of which none is asked
+pub row-unasked : (p : Policy) (c : Chain) (l : Lists) (r i : ℕ) (old : List ℕ) → asksNothing c r i ≡ true → Wrote (row (broken p c l) r i i) old old noneYet
+unfolding row gather asked one
+row-unasked p c l r i old h = rw (empty i) (wrote-none old) where
+  empty : (k : ℕ) → row (broken p c l) r i k ≡ []
+  empty zero = refl
+  empty (suc k) = rw (asks-nothing p c l r i k h, empty k) refl
 
 -- ---- the check of the bundles
 -- a sound bundle has few certificates

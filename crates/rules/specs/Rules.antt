@@ -1,8 +1,9 @@
 -- The rules by their numbers, and where each is asked: a line a rule (document 01, "The rules"). Assumes nothing.
 use Prim.Native.Nat.{ℕ, _+_}
 use mathlib.Core.List.{List, []}
-use mathlib.Core.Bool.{Bool, true, false, not}
+use mathlib.Core.Bool.{Bool, true, false, not, _&&_}
 use lib.Dec.{eqb}
+use Rattle.laws.specs.Optional.{isThere}
 use Rattle.model.specs.Model.{Cert, Task, Chain, Lists}
 use Rattle.model.specs.Decode.{chainOf, listsOf}
 use Rattle.faults.specs.Places.{when}
@@ -111,7 +112,11 @@ broken p c l r Nothing = false
 broken p c l r (Certificate i) = brokenAt p c l r (i .0)
 broken p c l r (Pair i j) = brokenBetween p c l r (i .0) (j .0)
 
--- the same of the chain and the lists that two bundles hold
+-- rule 14 speaks of a pair only where its first certificate, i, has NC
+unfoldable pub asksNothing : Chain → ℕ → ℕ → Bool
+asksNothing c r i = eqb r 14 && not (isThere (c .cert i .nc))
+
+-- what is broken of the chain and the lists that two bundles hold
 abbrev pub brokenIn : Policy → List ℕ → List ℕ → List ℕ → List ℕ → ℕ → Spot → Bool
 brokenIn p w b pw pb = broken p (chainOf w b) (listsOf pw pb)
 

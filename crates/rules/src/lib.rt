@@ -2,7 +2,7 @@
 ghost use mathlib.Core.Path.{_≡_};
 ghost use Rattle.model.specs.Decode.{taskOf, certAt, chainOf, listsOf};
 ghost use Rattle.fields.specs.KeyLevel.{checkCertKeyLevel};
-ghost use Rattle.rules.specs.Rules.{leastBits, dsaAllowed, purposeHolds, constraintsHold, hostHolds, holdsAt, holdsBetween, isRoot, brokenAt, brokenBetween, brokenIn, openSslPlaces, chromePlaces, placesOf};
+ghost use Rattle.rules.specs.Rules.{leastBits, dsaAllowed, purposeHolds, constraintsHold, hostHolds, holdsAt, holdsBetween, isRoot, brokenAt, brokenBetween, asksNothing, brokenIn, openSslPlaces, chromePlaces, placesOf};
 use faults::Places;
 use faults::Spot;
 use model::chain::CERTS;
@@ -14,6 +14,11 @@ use table::RuleNo;
 
 // The rule that is asked of the whole chain.
 const SYMANTEC: u32 = 20;
+
+// The rule of name constraints, and the word of a certificate that says whether it has some.
+const CONSTRAINTS: u32 = 14;
+
+const NC: u64 = 33;
 
 // The least bits of an RSA key.
 const LEAST_BITS: u64 = 1024;
@@ -248,6 +253,14 @@ pub fn breaks(
         Spot::Certificate(i) => breaks_at(policy, rule, i, words, bytes, pwords, pbytes),
         Spot::Pair(i, j) => breaks_between(policy, rule, i, j, words, bytes, pwords, pbytes),
     }
+}
+
+// Whether no pair of a certificate with one below it can break a rule, since it has no constraints.
+pub fn asks_nothing(rule: RuleNo, i: CertPos, words: &[u64], bytes: &[u8]) -> bool
+    ensures { λ r. ⌜ r ≡ asksNothing (chainOf (now (words .entry)) (now (bytes .entry))) (rule .0) (i .0) ⌝ }
+{
+    let unconstrained = model::chain::cert_word(words, row_of(i), NC) == 0;
+    (rule.0 == CONSTRAINTS) & unconstrained
 }
 
 // ---- where the rules are asked
