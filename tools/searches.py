@@ -128,7 +128,7 @@ def of_loop(name, parameters, sums, test, definition):
         "lib.ListN.{length}",
         "Rattle.laws.specs.Lists.{least}",
         "Rattle.laws.proofs.Loops.{least-none}",
-        "Rattle.sound.specs.Wrong.{%s}" % definition.split()[0],
+        "Rattle.row_tests.specs.Wrong.{%s}" % definition.split()[0],
     ]
     if "(word " in definition:
         uses.append("Rattle.table.specs.Table.{word}")

@@ -18,7 +18,7 @@ use Rattle.table.specs.declared.Range.{Range}
 use Rattle.model.specs.Sections.{attributes, rdns, names, usages, certs, entries, chainHeader, policyHeader}
 use Rattle.model.specs.Decode.{rowsIn}
 use Rattle.sound.specs.declared.Line.{Line}
-use Rattle.sound.specs.declared.Test.{Test}
+use Rattle.row_tests.specs.declared.Test.{Test}
 use Rattle.sound.specs.declared.Block.the-variants.{Header, All, Listed}
 use Rattle.sound.specs.Tables.{line, chainLines, chainSections, policyLines, policySections}
 use Rattle.sound.specs.Fault.{rowsOf, rowAt, rangeRows, misplaced, Fits, AllFit}

@@ -19,7 +19,7 @@ use Rattle.sound.specs.declared.Found.the-variants.{Clear, At}
 use Rattle.sound.specs.Answer.{Before, First}
 use Rattle.sound.specs.Fault.{InLine, rowsOf, rowAt, misplaced}
 use Rattle.sound.specs.Search.{earlierOf, firstRow, foundAt, foundIn, foundEach, foundSection}
-use Rattle.sound.specs.Wrong.{wrong}
+use Rattle.row_tests.specs.Wrong.{wrong}
 
 -- what was found is the first of the faults F
 abbrev pub FirstOf : (ℕ → ℕ → Type 0) → Found → Type 0

@@ -23,11 +23,11 @@ use Rattle.sound.specs.declared.Found.the-variants.{Clear, At}
 use Rattle.sound.specs.declared.Block.{Block}
 use Rattle.sound.specs.declared.Block.the-variants.{Header, All, Listed}
 use Rattle.sound.specs.declared.Rows.{Rows}
-use Rattle.sound.specs.declared.Test.{Test}
+use Rattle.row_tests.specs.declared.Test.{Test}
 use Rattle.sound.specs.declared.Line.{Line}
 use Rattle.sound.specs.Fault.{noRows, rangeRows, rowsOf, rowAt, misplaced, Fits, AllFit}
 use Rattle.sound.specs.Search.{earlierOf, settled, foundSection, firstRow, foundAt, foundIn, foundEach}
-use Rattle.sound.specs.Wrong.{wrong}
+use Rattle.row_tests.specs.Wrong.{wrong}
 
 -- ---- the earlier of two faults
 pub earlier-none : (f : Found) → f ≡ earlierOf f Clear

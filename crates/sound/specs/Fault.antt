@@ -16,7 +16,7 @@ use Rattle.sound.specs.declared.Block.{Block}
 use Rattle.sound.specs.declared.Block.the-variants.{Header, All, Listed}
 use Rattle.sound.specs.declared.Line.{Line}
 use Rattle.sound.specs.Tables.{chainLines, chainSections, policyLines, policySections}
-use Rattle.sound.specs.Wrong.{wrong}
+use Rattle.row_tests.specs.Wrong.{wrong}
 
 -- the limits
 abbrev pub mostWords : ℕ

@@ -2,4 +2,3 @@ pub mod Answer
 pub mod Fault
 pub mod Search
 pub mod Tables
-pub mod Wrong

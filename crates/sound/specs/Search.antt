@@ -10,7 +10,7 @@ use Rattle.sound.specs.declared.Rows.{Rows}
 use Rattle.sound.specs.declared.Found.{Found}
 use Rattle.sound.specs.declared.Found.the-variants.{Clear, At}
 use Rattle.sound.specs.Fault.{rowsOf, rowAt, misplaced}
-use Rattle.sound.specs.Wrong.{wrong}
+use Rattle.row_tests.specs.Wrong.{wrong}
 
 -- the one that goes before the other
 abbrev pub earlierOf : Found → Found → Found

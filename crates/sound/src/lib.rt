@@ -1,6 +1,6 @@
 // Whether a bundle is sound, and else which refusal is due at which word.
 ghost use mathlib.Core.Path.{_≡_};
-ghost use Prim.Native.Nat.{_+_, _-_, _≤_};
+ghost use Prim.Native.Nat.{_+_, _≤_};
 ghost use mathlib.Core.Bool.{not, _&&_, _||_};
 ghost use lib.Dec.{eqb, ltb};
 ghost use lib.ListN.{length};
@@ -11,17 +11,17 @@ ghost use Rattle.sound.specs.Fault.{rowsOf, rowAt, misplaced, Fits, AllF
 ghost use Rattle.sound.specs.Search.{earlierOf, settled, foundSection, firstRow, foundIn, foundEach};
 ghost use Rattle.sound.specs.Tables.{line, chainSections, policySections, tablesOut, certStringsOut, certRangesOut, codesOver, marksOver, namesHigh, chainLines, listsOut, entriesHigh, policyLines};
 ghost use Rattle.model.specs.Sections.{chainHeader, policyHeader, certs};
-ghost use Rattle.sound.specs.Wrong.{noString, noOptional, noRange, over, there, highString, stringOut, nameOut, somePart, extensionsWrong, wrong};
+ghost use Rattle.row_tests.specs.Wrong.{noString, noRange, highString, stringOut, wrong};
 use model::chain::ATTRIBUTES;
 use model::chain::CERTS;
 use model::chain::NAMES;
 use model::chain::RDNS;
 use model::chain::USAGES;
 use model::policy::ENTRIES;
+use row_tests::Test;
 use table::CertPos;
 use table::STRINGS;
 use table::Section;
-use table::StringNo;
 use table::word;
 
 // The words of a chain bundle's header.
@@ -59,25 +59,6 @@ pub enum Checked {
     Refused(u64, Bundle, Place),
 }
 
-// What is looked for in a word of a row. The first number of a part's test is the word that marks the part.
-pub enum Test {
-    StringOut,
-    NumberOut,
-    OptionalOut,
-    RangeOut(Section),
-    NameOut,
-    PartNumber(u8),
-    PartOptional(u8),
-    PartRange(u8, Section),
-    Over(u64),
-    PartOver(u8, u64),
-    Extensions,
-    NumberHigh,
-    DnsHigh,
-    OptionalHigh,
-    NotZero,
-}
-
 // The rows that a line speaks of: the header, those of a section, or those of L in the range at a word of the header.
 pub enum Block {
     Header,
@@ -104,153 +85,6 @@ pub struct Rows {
 pub enum Found {
     Clear,
     At(u64, usize),
-}
-
-// ---- what can be wrong with a word of a row
-
-fn no_string(words: &[u64], p: usize) -> bool
-    ensures { λ r. ⌜ r ≡ noString (now (words .entry)) p ⌝ }
-{
-    table::count(words, STRINGS) <= word(words, p)
-}
-
-fn no_optional(words: &[u64], p: usize) -> bool
-    ensures { λ r. ⌜ r ≡ noOptional (now (words .entry)) p ⌝ }
-{
-    table::count(words, STRINGS) < word(words, p)
-}
-
-// The sum of first and count is not made: it could wrap.
-fn no_range(words: &[u64], s: Section, p: usize) -> bool
-    ensures { λ r. ⌜ r ≡ noRange (now (words .entry)) s p ⌝ }
-{
-    if words.len() <= p {
-        return false;
-    }
-    let n = table::count(words, s);
-    let first = word(words, p);
-    if n < first {
-        return true;
-    }
-    n - first < word(words, p + 1)
-}
-
-fn over(words: &[u64], most: u64, p: usize) -> bool
-    ensures { λ r. ⌜ r ≡ over (now (words .entry)) most p ⌝ }
-{
-    most < word(words, p)
-}
-
-fn there(words: &[u64], p: usize) -> bool
-    ensures { λ r. ⌜ r ≡ there (now (words .entry)) p ⌝ }
-{
-    word(words, p) != 0
-}
-
-fn high_string(words: &[u64], bytes: &[u8], n: StringNo) -> bool
-    ensures { λ r. ⌜ r ≡ highString (now (words .entry)) (now (bytes .entry)) (n .0) ⌝ }
-{
-    text::has_high(table::string(words, bytes, n))
-}
-
-// The sum of start and length is not made either.
-fn string_out(words: &[u64], bytes: &[u8], p: usize) -> bool
-    ensures { λ r. ⌜ r ≡ stringOut (now (words .entry)) (now (bytes .entry)) p ⌝ }
-{
-    if words.len() <= p {
-        return false;
-    }
-    let total = bytes.len() as u64;
-    let start = word(words, p);
-    if total < start {
-        return true;
-    }
-    total - start < word(words, p + 1)
-}
-
-fn name_out(words: &[u64], q: usize) -> bool
-    requires { ⌜ q ≤ length (now words) ⌝ }
-    ensures { λ r. ⌜ r ≡ nameOut (now (words .entry)) q ⌝ }
-{
-    let kind = word(words, q);
-    match kind {
-        0 | 2 => no_string(words, q + 1),
-        1 => no_range(words, RDNS, q + 1),
-        _ => false,
-    }
-}
-
-fn some_part(words: &[u64], q: usize) -> bool
-    requires { ⌜ q ≤ length (now words) ⌝ }
-    ensures { λ r. ⌜ r ≡ somePart (now (words .entry)) q ⌝ }
-{
-    there(words, q + 15)
-        | there(words, q + 19)
-        | there(words, q + 21)
-        | there(words, q + 24)
-        | there(words, q + 28)
-        | there(words, q + 30)
-        | there(words, q + 33)
-        | there(words, q + 38)
-        | there(words, q + 39)
-}
-
-fn extensions_wrong(words: &[u64], q: usize) -> bool
-    requires { ⌜ q ≤ length (now words) ⌝ }
-    ensures { λ r. ⌜ r ≡ extensionsWrong (now (words .entry)) q ⌝ }
-{
-    over(words, 1, q + 40) | (!there(words, q + 40) & some_part(words, q))
-}
-
-fn number_high(words: &[u64], bytes: &[u8], p: usize) -> bool
-    ensures { λ r. ⌜ r ≡ highString (now (words .entry)) (now (bytes .entry)) (wordOf (now (words .entry)) p) ⌝ }
-{
-    high_string(words, bytes, StringNo(word(words, p)))
-}
-
-// The DNS name at p of a name that begins at q.
-fn dns_high(words: &[u64], bytes: &[u8], q: usize, p: usize) -> bool
-    ensures { λ r. ⌜ r ≡ (eqb (wordOf (now (words .entry)) q) 0 && highString (now (words .entry)) (now (bytes .entry)) (wordOf (now (words .entry)) p)) ⌝ }
-{
-    if word(words, q) != 0 {
-        return false;
-    }
-    number_high(words, bytes, p)
-}
-
-fn optional_high(words: &[u64], bytes: &[u8], p: usize) -> bool
-    ensures { λ r. ⌜ r ≡ (there (now (words .entry)) p && highString (now (words .entry)) (now (bytes .entry)) (wordOf (now (words .entry)) p - 1)) ⌝ }
-{
-    let n = word(words, p);
-    if n == 0 {
-        return false;
-    }
-    high_string(words, bytes, StringNo(n - 1))
-}
-
-// Whether word j of the row at q is wrong in the way that the test looks for.
-fn is_wrong(words: &[u64], bytes: &[u8], t: Test, q: usize, j: u8) -> bool
-    requires { ⌜ q ≤ length (now words) ⌝ }
-    ensures { λ r. ⌜ r ≡ wrong t (now (words .entry)) (now (bytes .entry)) q j ⌝ }
-{
-    let p = q + j as usize;
-    match t {
-        Test::StringOut => string_out(words, bytes, p),
-        Test::NumberOut => no_string(words, p),
-        Test::OptionalOut => no_optional(words, p),
-        Test::RangeOut(s) => no_range(words, s, p),
-        Test::NameOut => name_out(words, q),
-        Test::PartNumber(m) => there(words, q + m as usize) & no_string(words, p),
-        Test::PartOptional(m) => there(words, q + m as usize) & no_optional(words, p),
-        Test::PartRange(m, s) => there(words, q + m as usize) & no_range(words, s, p),
-        Test::Over(most) => over(words, most, p),
-        Test::PartOver(m, most) => there(words, q + m as usize) & over(words, most, p),
-        Test::Extensions => extensions_wrong(words, q),
-        Test::NumberHigh => number_high(words, bytes, p),
-        Test::DnsHigh => dns_high(words, bytes, q, p),
-        Test::OptionalHigh => optional_high(words, bytes, p),
-        Test::NotZero => there(words, p),
-    }
 }
 
 // ---- the search for the first fault
@@ -358,7 +192,7 @@ fn first_no_string(words: &[u64], r: Rows, j: u8) -> usize
     let mut q = r.at;
     let mut i = 0;
     while i < count {
-        if no_string(words, q + j as usize) {
+        if row_tests::no_string(words, q + j as usize) {
             return i;
         }
         q += size;
@@ -376,7 +210,7 @@ fn first_string_out(words: &[u64], bytes: &[u8], r: Rows, j: u8) -> usize
     let mut q = r.at;
     let mut i = 0;
     while i < count {
-        if string_out(words, bytes, q + j as usize) {
+        if row_tests::string_out(words, bytes, q + j as usize) {
             return i;
         }
         q += size;
@@ -394,7 +228,7 @@ fn first_no_range(words: &[u64], s: Section, r: Rows, j: u8) -> usize
     let mut q = r.at;
     let mut i = 0;
     while i < count {
-        if no_range(words, s, q + j as usize) {
+        if row_tests::no_range(words, s, q + j as usize) {
             return i;
         }
         q += size;
@@ -412,7 +246,7 @@ fn first_high(words: &[u64], bytes: &[u8], r: Rows, j: u8) -> usize
     let mut q = r.at;
     let mut i = 0;
     while i < count {
-        if number_high(words, bytes, q + j as usize) {
+        if row_tests::number_high(words, bytes, q + j as usize) {
             return i;
         }
         q += size;
@@ -430,7 +264,7 @@ fn first_wrong(words: &[u64], bytes: &[u8], t: Test, r: Rows, j: u8) -> usize
     let mut q = r.at;
     let mut i = 0;
     while i < count {
-        if is_wrong(words, bytes, t, q, j) {
+        if row_tests::is_wrong(words, bytes, t, q, j) {
             return i;
         }
         q += size;

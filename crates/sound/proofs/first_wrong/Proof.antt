@@ -5,7 +5,7 @@ use mathlib.Core.Path.{_≡_, refl}
 use lib.ListN.{length}
 use Rattle.laws.specs.Lists.{least}
 use Rattle.laws.proofs.Loops.{least-none}
-use Rattle.sound.specs.Wrong.{wrong}
+use Rattle.row_tests.specs.Wrong.{wrong}
 use Rattle.sound.proofs.Steps.{row-first, row-next, row-fits, row-here, row-later}
 use Rattle.sound.proofs.first_wrong.Statement.{statement}
 use Rattle.sound.proofs.first_wrong.Tie as tie
