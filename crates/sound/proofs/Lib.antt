@@ -1,4 +1,4 @@
+pub mod Each
 pub mod Fitting
 pub mod Order
-pub mod Steps
 pub mod Verdicts

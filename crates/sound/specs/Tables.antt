@@ -4,11 +4,11 @@ use mathlib.Core.List.{List, [], _∷_, _++_}
 use Rattle.table.specs.Table.{strings}
 use Rattle.table.specs.declared.Section.{Section}
 use Rattle.model.specs.Sections.{attributes, rdns, names, usages, certs, entries}
-use Rattle.sound.specs.declared.Block.{Block}
-use Rattle.sound.specs.declared.Block.the-variants.{Header, All, Listed}
+use Rattle.search.specs.declared.Block.{Block}
+use Rattle.search.specs.declared.Block.the-variants.{Header, All, Listed}
 use Rattle.row_tests.specs.declared.Test.{Test}
 use Rattle.row_tests.specs.declared.Test.the-variants.{StringOut, NumberOut, OptionalOut, RangeOut, NameOut, PartNumber, PartOptional, PartRange, Over, PartOver, Extensions, NumberHigh, DnsHigh, OptionalHigh, NotZero}
-use Rattle.sound.specs.declared.Line.{Line}
+use Rattle.search.specs.declared.Line.{Line}
 
 abbrev pub line : ℕ → Block → ℕ → Test → Line
 line n rows j t = record { number = n; block = rows; word = j; test = t }

@@ -1,17 +1,14 @@
 // Whether a bundle is sound, and else which refusal is due at which word.
 ghost use mathlib.Core.Path.{_≡_};
-ghost use Prim.Native.Nat.{_+_, _≤_};
-ghost use mathlib.Core.Bool.{not, _&&_, _||_};
+ghost use mathlib.Core.Bool.{not};
 ghost use lib.Dec.{eqb, ltb};
-ghost use lib.ListN.{length};
-ghost use Rattle.laws.specs.Lists.{least};
 ghost use Rattle.table.specs.Table.{word as wordOf, countOf};
-ghost use Rattle.sound.specs.Answer.{ChainVerdict, PolicyVerdict};
-ghost use Rattle.sound.specs.Fault.{rowsOf, rowAt, misplaced, Fits, AllFit, tooLarge, mostCerts, edition};
-ghost use Rattle.sound.specs.Search.{earlierOf, settled, foundSection, firstRow, foundIn, foundEach};
-ghost use Rattle.sound.specs.Tables.{line, chainSections, policySections, tablesOut, certStringsOut, certRangesOut, codesOver, marksOver, namesHigh, chainLines, listsOut, entriesHigh, policyLines};
 ghost use Rattle.model.specs.Sections.{chainHeader, policyHeader, certs};
-ghost use Rattle.row_tests.specs.Wrong.{noString, noRange, highString, stringOut, wrong};
+ghost use Rattle.search.specs.Found.{earlierOf, foundSection, foundIn};
+ghost use Rattle.sound.specs.Answer.{ChainVerdict, PolicyVerdict};
+ghost use Rattle.sound.specs.Fault.{tooLarge, mostCerts, edition};
+ghost use Rattle.sound.specs.Search.{foundEach};
+ghost use Rattle.sound.specs.Tables.{line, chainSections, policySections, tablesOut, certStringsOut, certRangesOut, codesOver, marksOver, namesHigh, chainLines, listsOut, entriesHigh, policyLines};
 use model::chain::ATTRIBUTES;
 use model::chain::CERTS;
 use model::chain::NAMES;
@@ -19,6 +16,11 @@ use model::chain::RDNS;
 use model::chain::USAGES;
 use model::policy::ENTRIES;
 use row_tests::Test;
+use search::Block;
+use search::Found;
+use search::Line;
+use search::with_line;
+use search::with_section;
 use table::CertPos;
 use table::STRINGS;
 use table::Section;
@@ -59,262 +61,7 @@ pub enum Checked {
     Refused(u64, Bundle, Place),
 }
 
-// The rows that a line speaks of: the header, those of a section, or those of L in the range at a word of the header.
-pub enum Block {
-    Header,
-    All(Section),
-    Listed(u8),
-}
-
-// A line of the tables: a refusal's number, the rows, the word of the row, and what may be wrong with it.
-pub struct Line {
-    pub number: u64,
-    pub block: Block,
-    pub word: u8,
-    pub test: Test,
-}
-
-// Rows of words: where the first begins, how long they are, how many.
-pub struct Rows {
-    pub at: usize,
-    pub size: usize,
-    pub count: usize,
-}
-
-// The first fault so far: a refusal's number and its word.
-pub enum Found {
-    Clear,
-    At(u64, usize),
-}
-
-// ---- the search for the first fault
-
-fn goes_before(n: u64, p: usize, m: u64, q: usize) -> bool
-    ensures { λ r. ⌜ r ≡ (ltb n m || (eqb n m && ltb p q)) ⌝ }
-{
-    (n < m) | ((n == m) & (p < q))
-}
-
-// The first of what was found so far and refusal n at the word p.
-fn earlier(f: Found, n: u64, p: usize) -> Found
-    ensures { λ r. ⌜ r ≡ earlierOf f (Found.At n p) ⌝ }
-{
-    match f {
-        Found::Clear => Found::At(n, p),
-        Found::At(m, q) => {
-            if goes_before(n, p, m, q) {
-                Found::At(n, p)
-            } else {
-                Found::At(m, q)
-            }
-        }
-    }
-}
-
-// Whether a section begins in the header or ends past the words, by a division, which can't wrap.
-fn is_misplaced(words: &[u64], header: usize, s: Section) -> bool
-    ensures { λ r. ⌜ r ≡ misplaced header (now (words .entry)) s ⌝ }
-{
-    let total = words.len() as u64;
-    let at = table::offset(words, s);
-    let size = s.size;
-    if at < header as u64 {
-        return true;
-    }
-    if total < at {
-        return true;
-    }
-    if size == 0 {
-        return false;
-    }
-    (total - at) / size < table::count(words, s)
-}
-
-fn with_section(words: &[u64], header: usize, f: Found, s: Section) -> Found
-    ensures { λ r. ⌜ r ≡ earlierOf f (foundSection header (now (words .entry)) s) ⌝ }
-{
-    let place = s.count;
-    if is_misplaced(words, header, s) {
-        return earlier(f, 4, place);
-    }
-    f
-}
-
-// The rows of L in the range at word p of the header.
-fn listed_rows(words: &[u64], p: u8) -> Rows
-    requires { ⌜ rowAt (rowsOf (now words) (Block.Listed p)) (rowsOf (now words) (Block.Listed p) .count) ≤ length (now words) ⌝ }
-    ensures { λ r. ⌜ r ≡ rowsOf (now (words .entry)) (Block.Listed p) ⌝ }
-{
-    let at = p as usize;
-    let r = model::chain::rows_in(words, ENTRIES, word(words, at), word(words, at + 1));
-    let from = r.from;
-    let to = r.to;
-    if from < to {
-        return Rows {
-            at: (table::offset(words, ENTRIES) + from) as usize,
-            size: 1,
-            count: (to - from) as usize,
-        };
-    }
-    Rows {
-        at: 0,
-        size: 0,
-        count: 0,
-    }
-}
-
-fn rows_of(words: &[u64], block: Block) -> Rows
-    requires { ⌜ rowAt (rowsOf (now words) block) (rowsOf (now words) block .count) ≤ length (now words) ⌝ }
-    ensures { λ r. ⌜ r ≡ rowsOf (now (words .entry)) block ⌝ }
-{
-    match block {
-        Block::Header => Rows {
-            at: 0,
-            size: 0,
-            count: 1,
-        },
-        Block::All(s) => Rows {
-            at: table::offset(words, s) as usize,
-            size: s.size as usize,
-            count: table::count(words, s) as usize,
-        },
-        Block::Listed(p) => listed_rows(words, p),
-    }
-}
-
-// The first row that fails a test, or their number. The tests of most rows have loops of their own: there nothing is chosen anew in each row.
-fn first_no_string(words: &[u64], r: Rows, j: u8) -> usize
-    requires { ⌜ rowAt r (r .count) ≤ length (now words) ⌝ }
-    ensures { λ i. ⌜ i ≡ least (λ k. noString (now (words .entry)) (rowAt r k + j)) 0 (r .count) ⌝ }
-{
-    let size = r.size;
-    let count = r.count;
-    let mut q = r.at;
-    let mut i = 0;
-    while i < count {
-        if row_tests::no_string(words, q + j as usize) {
-            return i;
-        }
-        q += size;
-        i += 1;
-    }
-    i
-}
-
-fn first_string_out(words: &[u64], bytes: &[u8], r: Rows, j: u8) -> usize
-    requires { ⌜ rowAt r (r .count) ≤ length (now words) ⌝ }
-    ensures { λ i. ⌜ i ≡ least (λ k. stringOut (now (words .entry)) (now (bytes .entry)) (rowAt r k + j)) 0 (r .count) ⌝ }
-{
-    let size = r.size;
-    let count = r.count;
-    let mut q = r.at;
-    let mut i = 0;
-    while i < count {
-        if row_tests::string_out(words, bytes, q + j as usize) {
-            return i;
-        }
-        q += size;
-        i += 1;
-    }
-    i
-}
-
-fn first_no_range(words: &[u64], s: Section, r: Rows, j: u8) -> usize
-    requires { ⌜ rowAt r (r .count) ≤ length (now words) ⌝ }
-    ensures { λ i. ⌜ i ≡ least (λ k. noRange (now (words .entry)) s (rowAt r k + j)) 0 (r .count) ⌝ }
-{
-    let size = r.size;
-    let count = r.count;
-    let mut q = r.at;
-    let mut i = 0;
-    while i < count {
-        if row_tests::no_range(words, s, q + j as usize) {
-            return i;
-        }
-        q += size;
-        i += 1;
-    }
-    i
-}
-
-fn first_high(words: &[u64], bytes: &[u8], r: Rows, j: u8) -> usize
-    requires { ⌜ rowAt r (r .count) ≤ length (now words) ⌝ }
-    ensures { λ i. ⌜ i ≡ least (λ k. highString (now (words .entry)) (now (bytes .entry)) (wordOf (now (words .entry)) (rowAt r k + j))) 0 (r .count) ⌝ }
-{
-    let size = r.size;
-    let count = r.count;
-    let mut q = r.at;
-    let mut i = 0;
-    while i < count {
-        if row_tests::number_high(words, bytes, q + j as usize) {
-            return i;
-        }
-        q += size;
-        i += 1;
-    }
-    i
-}
-
-fn first_wrong(words: &[u64], bytes: &[u8], t: Test, r: Rows, j: u8) -> usize
-    requires { ⌜ rowAt r (r .count) ≤ length (now words) ⌝ }
-    ensures { λ i. ⌜ i ≡ least (λ k. wrong t (now (words .entry)) (now (bytes .entry)) (rowAt r k) j) 0 (r .count) ⌝ }
-{
-    let size = r.size;
-    let count = r.count;
-    let mut q = r.at;
-    let mut i = 0;
-    while i < count {
-        if row_tests::is_wrong(words, bytes, t, q, j) {
-            return i;
-        }
-        q += size;
-        i += 1;
-    }
-    i
-}
-
-// The first wrong row of a line, or their number.
-fn first_row(words: &[u64], bytes: &[u8], l: Line, r: Rows) -> usize
-    requires { ⌜ rowAt r (r .count) ≤ length (now words) ⌝ }
-    ensures { λ i. ⌜ i ≡ firstRow (now (words .entry)) (now (bytes .entry)) l r ⌝ }
-{
-    let test = l.test;
-    let j = l.word;
-    match test {
-        Test::StringOut => first_string_out(words, bytes, r, j),
-        Test::NumberOut => first_no_string(words, r, j),
-        Test::RangeOut(s) => first_no_range(words, s, r, j),
-        Test::NumberHigh => first_high(words, bytes, r, j),
-        _ => first_wrong(words, bytes, test, r, j),
-    }
-}
-
-// Whether a fault was found that goes before every fault of refusal n.
-fn is_settled(f: Found, n: u64) -> bool
-    ensures { λ r. ⌜ r ≡ settled f n ⌝ }
-{
-    match f {
-        Found::Clear => false,
-        Found::At(m, _) => m < n,
-    }
-}
-
-fn with_line(words: &[u64], bytes: &[u8], f: Found, l: Line) -> Found
-    requires { ⌜ Fits (now words) l ⌝ }
-    ensures { λ r. ⌜ r ≡ earlierOf f (foundIn (now (words .entry)) (now (bytes .entry)) l) ⌝ }
-{
-    if is_settled(f, l.number) {
-        return f;
-    }
-    let block = l.block;
-    let r = rows_of(words, block);
-    let i = first_row(words, bytes, l, r);
-    if i < r.count {
-        let q = r.at + r.size * i;
-        return earlier(f, l.number, q + l.word as usize);
-    }
-    f
-}
+// ---- the sections and the lines of the tables
 
 // The first misplaced section of a chain bundle.
 fn chain_misplaced(words: &[u64]) -> Found
@@ -364,7 +111,6 @@ fn in_rows(
     word: u8,
     test: Test,
 ) -> Found
-    requires { ⌜ Fits (now words) (line number (Block.All s) word test) ⌝ }
     ensures { λ r. ⌜ r ≡ earlierOf f (foundIn (now (words .entry)) (now (bytes .entry)) (line number (Block.All s) word test)) ⌝ }
 {
     with_line(
@@ -382,7 +128,6 @@ fn in_rows(
 
 // The entries of L in the range at a word of the header.
 fn in_list(words: &[u64], bytes: &[u8], f: Found, number: u64, at: u8, test: Test) -> Found
-    requires { ⌜ Fits (now words) (line number (Block.Listed at) 0 test) ⌝ }
     ensures { λ r. ⌜ r ≡ earlierOf f (foundIn (now (words .entry)) (now (bytes .entry)) (line number (Block.Listed at) 0 test)) ⌝ }
 {
     with_line(
@@ -400,7 +145,6 @@ fn in_list(words: &[u64], bytes: &[u8], f: Found, number: u64, at: u8, test: Tes
 
 // Numbers and ranges of the header and the tables.
 fn tables_out(words: &[u64], bytes: &[u8], f: Found) -> Found
-    requires { ⌜ AllFit (now words) tablesOut ⌝ }
     ensures { λ r. ⌜ r ≡ foundEach (foundIn (now (words .entry)) (now (bytes .entry))) f tablesOut ⌝ }
 {
     let f = in_header(words, bytes, f, 5, 13, Test::OptionalOut);
@@ -413,7 +157,6 @@ fn tables_out(words: &[u64], bytes: &[u8], f: Found) -> Found
 
 // Strings of certificates.
 fn cert_strings_out(words: &[u64], bytes: &[u8], f: Found) -> Found
-    requires { ⌜ AllFit (now words) certStringsOut ⌝ }
     ensures { λ r. ⌜ r ≡ foundEach (foundIn (now (words .entry)) (now (bytes .entry))) f certStringsOut ⌝ }
 {
     let f = in_rows(words, bytes, f, 5, CERTS, 0, Test::NumberOut);
@@ -430,7 +173,6 @@ fn cert_strings_out(words: &[u64], bytes: &[u8], f: Found) -> Found
 
 // Ranges of certificates.
 fn cert_ranges_out(words: &[u64], bytes: &[u8], f: Found) -> Found
-    requires { ⌜ AllFit (now words) certRangesOut ⌝ }
     ensures { λ r. ⌜ r ≡ foundEach (foundIn (now (words .entry)) (now (bytes .entry))) f certRangesOut ⌝ }
 {
     let f = in_rows(words, bytes, f, 5, CERTS, 7, Test::RangeOut(RDNS));
@@ -443,7 +185,6 @@ fn cert_ranges_out(words: &[u64], bytes: &[u8], f: Found) -> Found
 
 // Codes above their ranges.
 fn codes_over(words: &[u64], bytes: &[u8], f: Found) -> Found
-    requires { ⌜ AllFit (now words) codesOver ⌝ }
     ensures { λ r. ⌜ r ≡ foundEach (foundIn (now (words .entry)) (now (bytes .entry))) f codesOver ⌝ }
 {
     let f = in_rows(words, bytes, f, 6, NAMES, 0, Test::Over(4));
@@ -458,7 +199,6 @@ fn codes_over(words: &[u64], bytes: &[u8], f: Found) -> Found
 
 // Marks of the nine parts.
 fn marks_over(words: &[u64], bytes: &[u8], f: Found) -> Found
-    requires { ⌜ AllFit (now words) marksOver ⌝ }
     ensures { λ r. ⌜ r ≡ foundEach (foundIn (now (words .entry)) (now (bytes .entry))) f marksOver ⌝ }
 {
     let f = in_rows(words, bytes, f, 6, CERTS, 15, Test::Over(3));
@@ -474,7 +214,6 @@ fn marks_over(words: &[u64], bytes: &[u8], f: Found) -> Found
 
 // Bytes over 127, and the purpose.
 fn names_high(words: &[u64], bytes: &[u8], f: Found) -> Found
-    requires { ⌜ AllFit (now words) namesHigh ⌝ }
     ensures { λ r. ⌜ r ≡ foundEach (foundIn (now (words .entry)) (now (bytes .entry))) f namesHigh ⌝ }
 {
     let f = in_header(words, bytes, f, 7, 13, Test::OptionalHigh);
@@ -485,7 +224,6 @@ fn names_high(words: &[u64], bytes: &[u8], f: Found) -> Found
 
 // Numbers and ranges of a policy bundle.
 fn lists_out(words: &[u64], bytes: &[u8], f: Found) -> Found
-    requires { ⌜ AllFit (now words) listsOut ⌝ }
     ensures { λ r. ⌜ r ≡ foundEach (foundIn (now (words .entry)) (now (bytes .entry))) f listsOut ⌝ }
 {
     let f = in_rows(words, bytes, f, 5, STRINGS, 0, Test::StringOut);
@@ -503,7 +241,6 @@ fn lists_out(words: &[u64], bytes: &[u8], f: Found) -> Found
 
 // Bytes over 127 in the lists of names.
 fn entries_high(words: &[u64], bytes: &[u8], f: Found) -> Found
-    requires { ⌜ AllFit (now words) entriesHigh ⌝ }
     ensures { λ r. ⌜ r ≡ foundEach (foundIn (now (words .entry)) (now (bytes .entry))) f entriesHigh ⌝ }
 {
     let f = in_list(words, bytes, f, 7, 5, Test::NumberHigh);
@@ -513,7 +250,6 @@ fn entries_high(words: &[u64], bytes: &[u8], f: Found) -> Found
 
 // The first wrong word of a chain bundle's rows.
 fn chain_wrong(words: &[u64], bytes: &[u8]) -> Found
-    requires { ⌜ AllFit (now words) chainLines ⌝ }
     ensures { λ r. ⌜ r ≡ foundEach (foundIn (now (words .entry)) (now (bytes .entry))) Found.Clear chainLines ⌝ }
 {
     let f = tables_out(words, bytes, Found::Clear);
@@ -526,7 +262,6 @@ fn chain_wrong(words: &[u64], bytes: &[u8]) -> Found
 
 // The same of a policy bundle.
 fn policy_wrong(words: &[u64], bytes: &[u8]) -> Found
-    requires { ⌜ AllFit (now words) policyLines ⌝ }
     ensures { λ r. ⌜ r ≡ foundEach (foundIn (now (words .entry)) (now (bytes .entry))) Found.Clear policyLines ⌝ }
 {
     let f = lists_out(words, bytes, Found::Clear);

@@ -1,38 +1,38 @@
-use Rattle.sound.specs.Search.{foundIn}
-use Rattle.sound.proofs.Steps.{each-more, each-done}
+use Rattle.search.specs.Found.{foundIn}
+use Rattle.sound.proofs.Each.{each-more, each-done}
 use borrow.Author.Needs.{needs}
 use Rattle.sound.proofs.cert_strings_out.Statement.{statement}
 use Rattle.sound.proofs.cert_strings_out.Tie as tie
 
 in-rows-requires : tie.Need-in-rows-requires
-in-rows-requires c κs = c .before .before .pre .0
+in-rows-requires c κs = search needs
 
 in-rows-requires-2 : tie.Need-in-rows-requires-2
-in-rows-requires-2 c κs = c .before .before .before .pre .1 .0
+in-rows-requires-2 c κs = search needs
 
 in-rows-requires-3 : tie.Need-in-rows-requires-3
-in-rows-requires-3 c κs = c .before .before .before .before .pre .1 .1 .0
+in-rows-requires-3 c κs = search needs
 
 in-rows-requires-4 : tie.Need-in-rows-requires-4
-in-rows-requires-4 c κs = c .before .before .before .before .before .pre .1 .1 .1 .0
+in-rows-requires-4 c κs = search needs
 
 in-rows-requires-5 : tie.Need-in-rows-requires-5
-in-rows-requires-5 c κs = c .before .before .before .before .before .before .pre .1 .1 .1 .1 .0
+in-rows-requires-5 c κs = search needs
 
 in-rows-requires-6 : tie.Need-in-rows-requires-6
-in-rows-requires-6 c κs = c .before .before .before .before .before .before .before .pre .1 .1 .1 .1 .1 .0
+in-rows-requires-6 c κs = search needs
 
 in-rows-requires-7 : tie.Need-in-rows-requires-7
-in-rows-requires-7 c κs = c .before .before .before .before .before .before .before .before .pre .1 .1 .1 .1 .1 .1 .0
+in-rows-requires-7 c κs = search needs
 
 in-rows-requires-8 : tie.Need-in-rows-requires-8
-in-rows-requires-8 c κs = c .before .before .before .before .before .before .before .before .before .pre .1 .1 .1 .1 .1 .1 .1 .0
+in-rows-requires-8 c κs = search needs
 
 in-rows-requires-9 : tie.Need-in-rows-requires-9
-in-rows-requires-9 c κs = c .before .before .before .before .before .before .before .before .before .before .pre .1 .1 .1 .1 .1 .1 .1 .1 .0
+in-rows-requires-9 c κs = search needs
 
 in-rows-requires-10 : tie.Need-in-rows-requires-10
-in-rows-requires-10 c κs = c .before .before .before .before .before .before .before .before .before .before .before .pre .1 .1 .1 .1 .1 .1 .1 .1 .1 .0
+in-rows-requires-10 c κs = search needs
 
 returns : tie.Need-returns
 returns c = each-more (foundIn _ _) _ _ _ (c .before .before .before .before .before .before .before .before .before .in-rows .ensures) (each-more (foundIn _ _) _ _ _ (c .before .before .before .before .before .before .before .before .in-rows2 .ensures) (each-more (foundIn _ _) _ _ _ (c .before .before .before .before .before .before .before .in-rows3 .ensures) (each-more (foundIn _ _) _ _ _ (c .before .before .before .before .before .before .in-rows4 .ensures) (each-more (foundIn _ _) _ _ _ (c .before .before .before .before .before .in-rows5 .ensures) (each-more (foundIn _ _) _ _ _ (c .before .before .before .before .in-rows6 .ensures) (each-more (foundIn _ _) _ _ _ (c .before .before .before .in-rows7 .ensures) (each-more (foundIn _ _) _ _ _ (c .before .before .in-rows8 .ensures) (each-more (foundIn _ _) _ _ _ (c .before .in-rows9 .ensures) (each-more (foundIn _ _) _ _ _ (c .in-rows10 .ensures) (each-done (foundIn _ _)))))))))))

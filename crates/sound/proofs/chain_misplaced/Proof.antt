@@ -1,6 +1,6 @@
 use Rattle.model.specs.Sections.{chainHeader}
-use Rattle.sound.specs.Search.{foundSection}
-use Rattle.sound.proofs.Steps.{each-more, each-done}
+use Rattle.search.specs.Found.{foundSection}
+use Rattle.sound.proofs.Each.{each-more, each-done}
 use borrow.Author.Needs.{needs}
 use Rattle.sound.proofs.chain_misplaced.Statement.{statement}
 use Rattle.sound.proofs.chain_misplaced.Tie as tie

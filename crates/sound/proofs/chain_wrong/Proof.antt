@@ -1,28 +1,28 @@
 use mathlib.Core.List.{_++_}
-use Rattle.sound.specs.Search.{foundIn}
+use Rattle.search.specs.Found.{foundIn}
 use Rattle.sound.specs.Tables.{tablesOut, certStringsOut, certRangesOut, codesOver, marksOver, namesHigh}
-use Rattle.sound.proofs.Steps.{each-then, fits-front, fits-rest}
+use Rattle.sound.proofs.Each.{each-then}
 use borrow.Author.Needs.{needs}
 use Rattle.sound.proofs.chain_wrong.Statement.{statement}
 use Rattle.sound.proofs.chain_wrong.Tie as tie
 
 tables-out-requires : tie.Need-tables-out-requires
-tables-out-requires c κs = fits-front _ tablesOut (certStringsOut ++ (certRangesOut ++ (codesOver ++ (marksOver ++ namesHigh)))) (c .before .before .pre)
+tables-out-requires c κs = search needs
 
 cert-strings-out-requires : tie.Need-cert-strings-out-requires
-cert-strings-out-requires c κs = fits-front _ certStringsOut (certRangesOut ++ (codesOver ++ (marksOver ++ namesHigh))) (fits-rest _ tablesOut (certStringsOut ++ (certRangesOut ++ (codesOver ++ (marksOver ++ namesHigh)))) (c .before .before .before .pre))
+cert-strings-out-requires c κs = search needs
 
 cert-ranges-out-requires : tie.Need-cert-ranges-out-requires
-cert-ranges-out-requires c κs = fits-front _ certRangesOut (codesOver ++ (marksOver ++ namesHigh)) (fits-rest _ certStringsOut (certRangesOut ++ (codesOver ++ (marksOver ++ namesHigh))) (fits-rest _ tablesOut (certStringsOut ++ (certRangesOut ++ (codesOver ++ (marksOver ++ namesHigh)))) (c .before .before .before .before .pre)))
+cert-ranges-out-requires c κs = search needs
 
 codes-over-requires : tie.Need-codes-over-requires
-codes-over-requires c κs = fits-front _ codesOver (marksOver ++ namesHigh) (fits-rest _ certRangesOut (codesOver ++ (marksOver ++ namesHigh)) (fits-rest _ certStringsOut (certRangesOut ++ (codesOver ++ (marksOver ++ namesHigh))) (fits-rest _ tablesOut (certStringsOut ++ (certRangesOut ++ (codesOver ++ (marksOver ++ namesHigh)))) (c .before .before .before .before .before .pre))))
+codes-over-requires c κs = search needs
 
 marks-over-requires : tie.Need-marks-over-requires
-marks-over-requires c κs = fits-front _ marksOver namesHigh (fits-rest _ codesOver (marksOver ++ namesHigh) (fits-rest _ certRangesOut (codesOver ++ (marksOver ++ namesHigh)) (fits-rest _ certStringsOut (certRangesOut ++ (codesOver ++ (marksOver ++ namesHigh))) (fits-rest _ tablesOut (certStringsOut ++ (certRangesOut ++ (codesOver ++ (marksOver ++ namesHigh)))) (c .before .before .before .before .before .before .pre)))))
+marks-over-requires c κs = search needs
 
 names-high-requires : tie.Need-names-high-requires
-names-high-requires c κs = fits-rest _ marksOver namesHigh (fits-rest _ codesOver (marksOver ++ namesHigh) (fits-rest _ certRangesOut (codesOver ++ (marksOver ++ namesHigh)) (fits-rest _ certStringsOut (certRangesOut ++ (codesOver ++ (marksOver ++ namesHigh))) (fits-rest _ tablesOut (certStringsOut ++ (certRangesOut ++ (codesOver ++ (marksOver ++ namesHigh)))) (c .before .before .before .before .before .before .before .pre)))))
+names-high-requires c κs = search needs
 
 returns : tie.Need-returns
 returns c = each-then (foundIn _ _) tablesOut (certStringsOut ++ (certRangesOut ++ (codesOver ++ (marksOver ++ namesHigh)))) _ (c .before .before .before .before .before .tables-out .ensures) (each-then (foundIn _ _) certStringsOut (certRangesOut ++ (codesOver ++ (marksOver ++ namesHigh))) _ (c .before .before .before .before .cert-strings-out .ensures) (each-then (foundIn _ _) certRangesOut (codesOver ++ (marksOver ++ namesHigh)) _ (c .before .before .before .cert-ranges-out .ensures) (each-then (foundIn _ _) codesOver (marksOver ++ namesHigh) _ (c .before .before .codes-over .ensures) (each-then (foundIn _ _) marksOver namesHigh _ (c .before .marks-over .ensures) (c .names-high .ensures)))))

@@ -1,17 +1,17 @@
-use Rattle.sound.specs.Search.{foundIn}
-use Rattle.sound.proofs.Steps.{each-more, each-done}
+use Rattle.search.specs.Found.{foundIn}
+use Rattle.sound.proofs.Each.{each-more, each-done}
 use borrow.Author.Needs.{needs}
 use Rattle.sound.proofs.entries_high.Statement.{statement}
 use Rattle.sound.proofs.entries_high.Tie as tie
 
 in-list-requires : tie.Need-in-list-requires
-in-list-requires c κs = c .before .before .pre .0
+in-list-requires c κs = search needs
 
 in-list-requires-2 : tie.Need-in-list-requires-2
-in-list-requires-2 c κs = c .before .before .before .pre .1 .0
+in-list-requires-2 c κs = search needs
 
 in-list-requires-3 : tie.Need-in-list-requires-3
-in-list-requires-3 c κs = c .before .before .before .before .pre .1 .1 .0
+in-list-requires-3 c κs = search needs
 
 returns : tie.Need-returns
 returns c = each-more (foundIn _ _) _ _ _ (c .before .before .in-list .ensures) (each-more (foundIn _ _) _ _ _ (c .before .in-list2 .ensures) (each-more (foundIn _ _) _ _ _ (c .in-list3 .ensures) (each-done (foundIn _ _))))

@@ -1,5 +1,5 @@
-use Rattle.sound.specs.Search.{foundIn}
-use Rattle.sound.proofs.Steps.{each-more, each-done}
+use Rattle.search.specs.Found.{foundIn}
+use Rattle.sound.proofs.Each.{each-more, each-done}
 use borrow.Author.Needs.{needs}
 use Rattle.sound.proofs.names_high.Statement.{statement}
 use Rattle.sound.proofs.names_high.Tie as tie
@@ -8,10 +8,10 @@ in-header-requires : tie.Need-in-header-requires
 in-header-requires c κs = search needs
 
 in-rows-requires : tie.Need-in-rows-requires
-in-rows-requires c κs = c .before .before .before .pre .1 .0
+in-rows-requires c κs = search needs
 
 in-rows-requires-2 : tie.Need-in-rows-requires-2
-in-rows-requires-2 c κs = c .before .before .before .before .pre .1 .1 .0
+in-rows-requires-2 c κs = search needs
 
 in-header-requires-2 : tie.Need-in-header-requires-2
 in-header-requires-2 c κs = search needs

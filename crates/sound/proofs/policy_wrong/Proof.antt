@@ -1,15 +1,15 @@
-use Rattle.sound.specs.Search.{foundIn}
+use Rattle.search.specs.Found.{foundIn}
 use Rattle.sound.specs.Tables.{listsOut, entriesHigh}
-use Rattle.sound.proofs.Steps.{each-then, fits-front, fits-rest}
+use Rattle.sound.proofs.Each.{each-then}
 use borrow.Author.Needs.{needs}
 use Rattle.sound.proofs.policy_wrong.Statement.{statement}
 use Rattle.sound.proofs.policy_wrong.Tie as tie
 
 lists-out-requires : tie.Need-lists-out-requires
-lists-out-requires c κs = fits-front _ listsOut entriesHigh (c .before .before .pre)
+lists-out-requires c κs = search needs
 
 entries-high-requires : tie.Need-entries-high-requires
-entries-high-requires c κs = fits-rest _ listsOut entriesHigh (c .before .before .before .pre)
+entries-high-requires c κs = search needs
 
 returns : tie.Need-returns
 returns c = each-then (foundIn _ _) listsOut entriesHigh _ (c .before .lists-out .ensures) (c .entries-high .ensures)
