@@ -1,15 +1,15 @@
-"""The proofs of functions that look at one thing after the other: in crate sound sections, lines and groups of lines, in crate search the rows of a line."""
+"""The proofs of functions that look at one thing after the other: in crate lines sections, lines and groups of lines, in crate search the rows of a line."""
 
 # A function that looks at lines: its list in specs/Tables, and for each line the function that it calls.
-HEADER, ROWS, LIST = "in_header", "in_rows", "in_list"
+HEADER, ROWS, CERTS, MARK, RANGE, LIST = "in_header", "in_rows", "in_certs", "mark_over", "list_out", "in_list"
 LINES = {
     "tables_out": [HEADER] + 5 * [ROWS],
-    "cert_strings_out": 10 * [ROWS],
-    "cert_ranges_out": 6 * [ROWS],
-    "codes_over": 8 * [ROWS],
-    "marks_over": 9 * [ROWS],
+    "cert_strings_out": 10 * [CERTS],
+    "cert_ranges_out": 6 * [CERTS],
+    "codes_over": 2 * [ROWS] + 6 * [CERTS],
+    "marks_over": 9 * [MARK],
     "names_high": [HEADER, ROWS, ROWS, HEADER],
-    "lists_out": 2 * [ROWS] + 9 * [HEADER],
+    "lists_out": 2 * [ROWS] + 9 * [RANGE],
     "entries_high": 3 * [LIST],
 }
 SECTIONS = {"chain_misplaced": ("chainHeader", 6), "policy_misplaced": ("policyHeader", 2)}
@@ -52,7 +52,7 @@ def numbered(calls):
 def proof(name, calls, uses, returns):
     """returns(facts) puts together what the calls ensure."""
     calls = list(numbered(calls))
-    module = f"Rattle.sound.proofs.{name}"
+    module = f"Rattle.lines.proofs.{name}"
     lines = [f"use {use}" for use in uses + ["borrow.Author.Needs.{needs}", module + ".Statement.{statement}", module + ".Tie as tie"]]
     for _, need in calls:
         lines += ["", f"{need} : tie.Need-{need}", f"{need} c κs = search needs"]
@@ -78,7 +78,7 @@ def nested(found, facts):
 
 
 def of_lines(name, calls):
-    uses = ["Rattle.search.specs.Found.{foundIn}", "Rattle.sound.proofs.Each.{each-more, each-done}"]
+    uses = ["Rattle.search.specs.Found.{foundIn}", "Rattle.lines.proofs.Each.{each-more, each-done}"]
     return proof(name, calls, uses, lambda facts: nested("(foundIn _ _)", facts))
 
 
@@ -86,7 +86,7 @@ def of_sections(name, header, count):
     uses = [
         "Rattle.model.specs.Sections.{%s}" % header,
         "Rattle.search.specs.Found.{foundSection}",
-        "Rattle.sound.proofs.Each.{each-more, each-done}",
+        "Rattle.lines.proofs.Each.{each-more, each-done}",
     ]
     return proof(name, count * ["with_section"], uses, lambda facts: nested(f"(foundSection {header} _)", facts))
 
@@ -97,8 +97,8 @@ def of_groups(name, groups):
     uses = ["mathlib.Core.List.{_++_}"] if len(lists) > 2 else []
     uses += [
         "Rattle.search.specs.Found.{foundIn}",
-        "Rattle.sound.specs.Tables.{%s}" % ", ".join(lists),
-        "Rattle.sound.proofs.Each.{each-then}",
+        "Rattle.lines.specs.Tables.{%s}" % ", ".join(lists),
+        "Rattle.lines.proofs.Each.{each-then}",
     ]
 
     def returns(facts):
@@ -168,5 +168,5 @@ def files():
     made = {name: of_lines(name, calls) for name, calls in LINES.items()}
     made |= {name: of_sections(name, *section) for name, section in SECTIONS.items()}
     made |= {name: of_groups(name, groups) for name, groups in GROUPS.items()}
-    written = {f"crates/sound/proofs/{name}/Proof.antt": text for name, text in made.items()}
+    written = {f"crates/lines/proofs/{name}/Proof.antt": text for name, text in made.items()}
     return written | {f"crates/search/proofs/{name}/Proof.antt": of_loop(name, *loop) for name, loop in LOOPS.items()}

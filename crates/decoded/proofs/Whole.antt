@@ -17,7 +17,7 @@ use Rattle.search.specs.declared.Line.{Line}
 use Rattle.row_tests.specs.declared.Test.the-variants.{NotZero}
 use Rattle.search.specs.Rows.{rowsOf, rowAt}
 use Rattle.sound.specs.Fault.{Fault, chainLayout, policyLayout}
-use Rattle.sound.specs.Tables.{line, chainLines, policyLines}
+use Rattle.lines.specs.Tables.{line, chainLines, policyLines}
 use Rattle.row_tests.specs.Wrong.{there, wrong, noRange, stringOut}
 use Rattle.decoded.proofs.Gives.{row-right, part-right, string-lies, range-lies, name-range}
 

@@ -15,7 +15,7 @@ use Rattle.model.specs.Sections.{attributes, rdns, names, usages, certs, entrie
 use Rattle.search.specs.declared.Line.{Line}
 use Rattle.search.specs.Rows.{misplaced}
 use Rattle.search.specs.Found.{inWords}
-use Rattle.sound.specs.Tables.{chainLines, chainSections, policyLines, policySections}
+use Rattle.lines.specs.Tables.{chainLines, chainSections, policyLines, policySections}
 
 member-all : {A : Type 0} (p : A → Bool) (x : A) (xs : List A) → all p xs ≡ true → List·Memᴰ x xs → p x ≡ true
 unfolding all

@@ -1,4 +1,3 @@
-pub mod Each
 pub mod Fitting
 pub mod Order
 pub mod Verdicts

@@ -21,7 +21,7 @@ use Rattle.search.specs.Rows.{rowsOf, rowAt, misplaced}
 use Rattle.search.specs.Found.{earlierOf, inWords, searched, firstRow, foundAt, foundIn, foundSection}
 use Rattle.sound.specs.Answer.{Before, First}
 use Rattle.sound.specs.Fault.{InLine}
-use Rattle.sound.specs.Search.{foundEach}
+use Rattle.lines.specs.Each.{foundEach}
 
 -- what was found is the first of the faults F
 abbrev pub FirstOf : (ℕ → ℕ → Type 0) → Found → Type 0

@@ -22,7 +22,7 @@ use Rattle.sound.specs.declared.Checked.{Checked}
 use Rattle.sound.specs.declared.Checked.the-variants.{Sound, Refused}
 use Rattle.sound.specs.Answer.{bundleNumber, placeKind, placeFirst, Before, First, Verdict}
 use Rattle.sound.specs.Fault.{Layout, Fault, size, otherEdition, section, row, edition}
-use Rattle.sound.specs.Search.{foundEach}
+use Rattle.lines.specs.Each.{foundEach}
 use Rattle.sound.proofs.Order.{FirstOf, all-first, first-same, LineFault, found-first, SectionFault, section-first}
 
 -- where no section is misplaced the rows of every line lie in the words

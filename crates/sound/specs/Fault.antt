@@ -11,7 +11,7 @@ use Rattle.model.specs.Sections.{chainHeader, policyHeader, certs}
 use Rattle.row_tests.specs.Wrong.{wrong}
 use Rattle.search.specs.declared.Line.{Line}
 use Rattle.search.specs.Rows.{rowsOf, rowAt, misplaced}
-use Rattle.sound.specs.Tables.{chainLines, chainSections, policyLines, policySections}
+use Rattle.lines.specs.Tables.{chainLines, chainSections, policyLines, policySections}
 
 -- the limits
 abbrev pub mostWords : ℕ

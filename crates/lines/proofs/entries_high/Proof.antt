@@ -1,8 +1,8 @@
 use Rattle.search.specs.Found.{foundIn}
-use Rattle.sound.proofs.Each.{each-more, each-done}
+use Rattle.lines.proofs.Each.{each-more, each-done}
 use borrow.Author.Needs.{needs}
-use Rattle.sound.proofs.entries_high.Statement.{statement}
-use Rattle.sound.proofs.entries_high.Tie as tie
+use Rattle.lines.proofs.entries_high.Statement.{statement}
+use Rattle.lines.proofs.entries_high.Tie as tie
 
 in-list-requires : tie.Need-in-list-requires
 in-list-requires c κs = search needs

@@ -1,9 +1,9 @@
 use Rattle.search.specs.Found.{foundIn}
-use Rattle.sound.specs.Tables.{listsOut, entriesHigh}
-use Rattle.sound.proofs.Each.{each-then}
+use Rattle.lines.specs.Tables.{listsOut, entriesHigh}
+use Rattle.lines.proofs.Each.{each-then}
 use borrow.Author.Needs.{needs}
-use Rattle.sound.proofs.policy_wrong.Statement.{statement}
-use Rattle.sound.proofs.policy_wrong.Tie as tie
+use Rattle.lines.proofs.policy_wrong.Statement.{statement}
+use Rattle.lines.proofs.policy_wrong.Tie as tie
 
 lists-out-requires : tie.Need-lists-out-requires
 lists-out-requires c κs = search needs

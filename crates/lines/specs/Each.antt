@@ -1,4 +1,4 @@
--- How the code searches for the first fault. Only private contracts cite this; that it finds the first is proved in proofs/. Assumes nothing.
+-- Several things are looked at one after the other. That the first of all faults is found so is proved in `sound`. Assumes nothing.
 use mathlib.Core.List.{List, [], _∷_}
 use Rattle.search.specs.declared.Found.{Found}
 use Rattle.search.specs.Found.{earlierOf}

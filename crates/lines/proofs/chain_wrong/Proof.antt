@@ -1,10 +1,10 @@
 use mathlib.Core.List.{_++_}
 use Rattle.search.specs.Found.{foundIn}
-use Rattle.sound.specs.Tables.{tablesOut, certStringsOut, certRangesOut, codesOver, marksOver, namesHigh}
-use Rattle.sound.proofs.Each.{each-then}
+use Rattle.lines.specs.Tables.{tablesOut, certStringsOut, certRangesOut, codesOver, marksOver, namesHigh}
+use Rattle.lines.proofs.Each.{each-then}
 use borrow.Author.Needs.{needs}
-use Rattle.sound.proofs.chain_wrong.Statement.{statement}
-use Rattle.sound.proofs.chain_wrong.Tie as tie
+use Rattle.lines.proofs.chain_wrong.Statement.{statement}
+use Rattle.lines.proofs.chain_wrong.Tie as tie
 
 tables-out-requires : tie.Need-tables-out-requires
 tables-out-requires c κs = search needs
