@@ -37,6 +37,7 @@ pub fn chain_misplaced(words: &[u64]) -> Found
     with_section(words, CHAIN_HEADER, f, CERTS)
 }
 
+// The same of a policy bundle.
 pub fn policy_misplaced(words: &[u64]) -> Found
     ensures { λ r. ⌜ r ≡ foundEach (foundSection policyHeader (now (words .entry))) Found.Clear policySections ⌝ }
 {

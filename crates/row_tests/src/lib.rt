@@ -31,19 +31,21 @@ pub enum Test {
     NotZero,
 }
 
+// Whether word p is no string number.
 pub fn no_string(words: &[u64], p: usize) -> bool
     ensures { λ r. ⌜ r ≡ noString (now (words .entry)) p ⌝ }
 {
     table::count(words, STRINGS) <= word(words, p)
 }
 
+// Whether word p is neither 0 nor a string number plus 1.
 fn no_optional(words: &[u64], p: usize) -> bool
     ensures { λ r. ⌜ r ≡ noOptional (now (words .entry)) p ⌝ }
 {
     table::count(words, STRINGS) < word(words, p)
 }
 
-// The sum of first and count is not made: it could wrap.
+// Whether words p and p + 1, first and count, are no range of the section. Their sum is not made: it could wrap.
 pub fn no_range(words: &[u64], s: Section, p: usize) -> bool
     ensures { λ r. ⌜ r ≡ noRange (now (words .entry)) s p ⌝ }
 {
@@ -58,25 +60,28 @@ pub fn no_range(words: &[u64], s: Section, p: usize) -> bool
     n - first < word(words, p + 1)
 }
 
+// Whether word p is above a number.
 fn over(words: &[u64], most: u64, p: usize) -> bool
     ensures { λ r. ⌜ r ≡ over (now (words .entry)) most p ⌝ }
 {
     most < word(words, p)
 }
 
+// Whether word p is not 0: a part is present, an optional string is there.
 fn there(words: &[u64], p: usize) -> bool
     ensures { λ r. ⌜ r ≡ there (now (words .entry)) p ⌝ }
 {
     word(words, p) != 0
 }
 
+// Whether a string has a byte over 127.
 fn high_string(words: &[u64], bytes: &[u8], n: StringNo) -> bool
     ensures { λ r. ⌜ r ≡ highString (now (words .entry)) (now (bytes .entry)) (n .0) ⌝ }
 {
     text::has_high(table::string(words, bytes, n))
 }
 
-// The sum of start and length is not made either.
+// Whether the string with start and length at p and p + 1 ends outside the bytes. Their sum is not made either.
 pub fn string_out(words: &[u64], bytes: &[u8], p: usize) -> bool
     ensures { λ r. ⌜ r ≡ stringOut (now (words .entry)) (now (bytes .entry)) p ⌝ }
 {
@@ -91,6 +96,7 @@ pub fn string_out(words: &[u64], bytes: &[u8], p: usize) -> bool
     total - start < word(words, p + 1)
 }
 
+// Whether the name at q has an x, or an x and y, that its kind does not allow.
 fn name_out(words: &[u64], q: usize) -> bool
     requires { ⌜ q ≤ length (now words) ⌝ }
     ensures { λ r. ⌜ r ≡ nameOut (now (words .entry)) q ⌝ }
@@ -103,6 +109,7 @@ fn name_out(words: &[u64], q: usize) -> bool
     }
 }
 
+// Whether the certificate at q has one of the nine parts.
 fn some_part(words: &[u64], q: usize) -> bool
     requires { ⌜ q ≤ length (now words) ⌝ }
     ensures { λ r. ⌜ r ≡ somePart (now (words .entry)) q ⌝ }
@@ -118,6 +125,7 @@ fn some_part(words: &[u64], q: usize) -> bool
         | there(words, q + 39)
 }
 
+// Whether word 40 of the certificate at q is above 1, or 0 beside a part.
 fn extensions_wrong(words: &[u64], q: usize) -> bool
     requires { ⌜ q ≤ length (now words) ⌝ }
     ensures { λ r. ⌜ r ≡ extensionsWrong (now (words .entry)) q ⌝ }
@@ -125,13 +133,14 @@ fn extensions_wrong(words: &[u64], q: usize) -> bool
     over(words, 1, q + 40) | (!there(words, q + 40) & some_part(words, q))
 }
 
+// Whether the string whose number is at p has a byte over 127.
 pub fn number_high(words: &[u64], bytes: &[u8], p: usize) -> bool
     ensures { λ r. ⌜ r ≡ highString (now (words .entry)) (now (bytes .entry)) (wordOf (now (words .entry)) p) ⌝ }
 {
     high_string(words, bytes, StringNo(word(words, p)))
 }
 
-// The DNS name at p of a name that begins at q.
+// The same of the DNS name at p, if the name that begins at q is one.
 fn dns_high(words: &[u64], bytes: &[u8], q: usize, p: usize) -> bool
     ensures { λ r. ⌜ r ≡ (eqb (wordOf (now (words .entry)) q) 0 && highString (now (words .entry)) (now (bytes .entry)) (wordOf (now (words .entry)) p)) ⌝ }
 {
@@ -141,6 +150,7 @@ fn dns_high(words: &[u64], bytes: &[u8], q: usize, p: usize) -> bool
     number_high(words, bytes, p)
 }
 
+// The same of an optional string, if it is there.
 fn optional_high(words: &[u64], bytes: &[u8], p: usize) -> bool
     ensures { λ r. ⌜ r ≡ (there (now (words .entry)) p && highString (now (words .entry)) (now (bytes .entry)) (wordOf (now (words .entry)) p - 1)) ⌝ }
 {

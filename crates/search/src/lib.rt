@@ -48,6 +48,7 @@ const NO_ROWS: Rows = Rows {
     count: 0,
 };
 
+// Whether refusal n at the word p goes before refusal m at the word q.
 fn goes_before(n: u64, p: usize, m: u64, q: usize) -> bool
     ensures { λ r. ⌜ r ≡ (ltb n m || (eqb n m && ltb p q)) ⌝ }
 {
@@ -100,7 +101,7 @@ pub fn with_section(words: &[u64], header: usize, f: Found, s: Section) -> Found
     f
 }
 
-// Every row of a section.
+// Every row of a section, if it lies in the words: what is not there is not read.
 fn section_rows(words: &[u64], s: Section) -> Rows
     ensures { λ r. ⌜ r ≡ searched (now (words .entry)) (Block.All s) ⌝ }
 {
@@ -114,7 +115,7 @@ fn section_rows(words: &[u64], s: Section) -> Rows
     }
 }
 
-// The rows of L in the range at word p of the header.
+// The rows of L in the range at word p of the header, if L lies in the words.
 fn listed_rows(words: &[u64], p: u8) -> Rows
     ensures { λ r. ⌜ r ≡ searched (now (words .entry)) (Block.Listed p) ⌝ }
 {
@@ -135,6 +136,7 @@ fn listed_rows(words: &[u64], p: u8) -> Rows
     }
 }
 
+// The rows of a line that are searched.
 fn rows_of(words: &[u64], block: Block) -> Rows
     ensures { λ r. ⌜ r ≡ searched (now (words .entry)) block ⌝ }
 {
@@ -266,7 +268,7 @@ fn is_settled(f: Found, n: u64) -> bool
     }
 }
 
-// The first of f and of the faults of a line. Its rows are searched if their section lies in the words.
+// The first of f and of the faults of a line. Where the rows' section does not lie in the words none is looked for.
 pub fn with_line(words: &[u64], bytes: &[u8], f: Found, l: Line) -> Found
     ensures { λ r. ⌜ r ≡ earlierOf f (foundIn (now (words .entry)) (now (bytes .entry)) l) ⌝ }
 {

@@ -1,15 +1,14 @@
 -- With no misplaced section the rows of every line lie in the words, and every line is numbered from 5 on. Assumes nothing.
-use Prim.Native.Nat.{ℕ, _+_, _*_, _≤_, zero-le}
-use mathlib.Core.Path.{_≡_, refl, sym, _∙_}
+use Prim.Native.Nat.{ℕ, _≤_, zero-le}
+use mathlib.Core.Path.{_≡_, refl}
 use mathlib.Core.List.{List, [], _∷_, List·Memᴰ, List·Memᴰ·head, List·Memᴰ·tail, List·Memᴰ·not-nil, List·Memᴰ·cases-cons}
 use mathlib.Core.Logic.{⊎-elim}
-use mathlib.Core.Bool.{Bool, true, false, _||_}
+use mathlib.Core.Bool.{Bool, true, false}
 use lib.Dec.{leb, ltb}
-use lib.ListN.{length}
 use borrow.Author.Tests.{leb-true, le-ltb}
 use Rattle.laws.specs.Lists.{all}
 use Rattle.laws.proofs.Tests.{and-left, and-right, or-right}
-use Rattle.table.specs.Table.{strings, countOf, offsetOf}
+use Rattle.table.specs.Table.{strings, offsetOf}
 use Rattle.table.specs.declared.Section.{Section}
 use Rattle.model.specs.Sections.{attributes, rdns, names, usages, certs, entries, chainHeader, policyHeader}
 use Rattle.search.specs.declared.Line.{Line}
@@ -32,12 +31,16 @@ unfolding all
 policy-from5 l m = leb-true 5 (l .number) (member-all (λ l. leb 5 (l .number)) l policyLines refl m)
 
 -- ---- rows
+-- where no section is misplaced the rows of every line lie in the words
+abbrev pub Within : ℕ → List Section → List Line → List ℕ → Type 0
+Within header sections lines w = ((s : Section) → List·Memᴰ s sections → misplaced header w s ≡ false) → (l : Line) → List·Memᴰ l lines → inWords w (l .block) ≡ true
+
 -- a section that lies behind the header lies in the words
 in-place : (header : ℕ) (w : List ℕ) (s : Section) → misplaced header w s ≡ false → misplaced 0 w s ≡ false
 unfolding misplaced
 in-place header w s h = rw (le-ltb (offsetOf w s) 0 zero-le) (or-right (ltb (offsetOf w s) header) _ h)
 
-pub chain-within : (w : List ℕ) → ((s : Section) → List·Memᴰ s chainSections → misplaced chainHeader w s ≡ false) → (l : Line) → List·Memᴰ l chainLines → inWords w (l .block) ≡ true
+pub chain-within : (w : List ℕ) → Within chainHeader chainSections chainLines w
 unfolding all inWords
 chain-within w placed l m =
     let a = in-place chainHeader w strings (placed strings (List·Memᴰ·head refl)) in
@@ -48,7 +51,7 @@ chain-within w placed l m =
     let f = in-place chainHeader w certs (placed certs (List·Memᴰ·tail (List·Memᴰ·tail (List·Memᴰ·tail (List·Memᴰ·tail (List·Memᴰ·tail (List·Memᴰ·head refl))))))) in
     member-all (λ l. inWords w (l .block)) l chainLines (rw (a, b, c, d, e, f) refl) m
 
-pub policy-within : (w : List ℕ) → ((s : Section) → List·Memᴰ s policySections → misplaced policyHeader w s ≡ false) → (l : Line) → List·Memᴰ l policyLines → inWords w (l .block) ≡ true
+pub policy-within : (w : List ℕ) → Within policyHeader policySections policyLines w
 unfolding all inWords
 policy-within w placed l m =
     let a = in-place policyHeader w strings (placed strings (List·Memᴰ·head refl)) in

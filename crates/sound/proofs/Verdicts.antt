@@ -13,7 +13,7 @@ use Rattle.search.specs.declared.Line.{Line}
 use Rattle.search.specs.declared.Found.{Found}
 use Rattle.search.specs.declared.Found.the-variants.{Clear, At}
 use Rattle.search.specs.Rows.{misplaced}
-use Rattle.search.specs.Found.{inWords, foundIn, foundSection}
+use Rattle.search.specs.Found.{foundIn, foundSection}
 use Rattle.sound.specs.declared.Bundle.{Bundle}
 use Rattle.sound.specs.declared.Bundle.the-variants.{Chain, Policy}
 use Rattle.sound.specs.declared.Place.{Place}
@@ -23,11 +23,8 @@ use Rattle.sound.specs.declared.Checked.the-variants.{Sound, Refused}
 use Rattle.sound.specs.Answer.{bundleNumber, placeKind, placeFirst, Before, First, Verdict}
 use Rattle.sound.specs.Fault.{Layout, Fault, size, otherEdition, section, row, edition}
 use Rattle.lines.specs.Each.{foundEach}
+use Rattle.sound.proofs.Fitting.{Within}
 use Rattle.sound.proofs.Order.{FirstOf, all-first, first-same, LineFault, found-first, SectionFault, section-first}
-
--- where no section is misplaced the rows of every line lie in the words
-abbrev pub Within : Layout → List ℕ → Type 0
-Within y w = ((s : Section) → List·Memᴰ s (y .sections) → misplaced (y .header) w s ≡ false) → (l : Line) → List·Memᴰ l (y .lines) → inWords w (l .block) ≡ true
 
 module _ (y : Layout) (w b : List ℕ) (from5 : (l : Line) → List·Memᴰ l (y .lines) → 5 ≤ l .number) where
   -- ---- the faults by stage
@@ -83,7 +80,7 @@ module _ (y : Layout) (w b : List ℕ) (from5 : (l : Line) → List·Memᴰ l (y
           go true h = absurd (no-section 4 (s .count) (s, m, (refl, refl, h)))
           go false h = refl
 
-        module _ (within : Within y w) where
+        module _ (within : Within (y .header) (y .sections) (y .lines) w) where
           lines-first : FirstOf Lines (foundEach (foundIn w b) Clear (y .lines))
           lines-first = first-same (λ n p. ⊥ ⊎ Lines n p) Lines (λ n p. ⊎-elim absurd (λ h. h)) (λ n p h. inr h) (foundEach (foundIn w b) Clear (y .lines)) (all-first (LineFault w b) (foundIn w b) (λ n p. ⊥) Clear (y .lines) (λ l m. found-first w b l (within placed l m)) (λ n p h. h))
 
@@ -150,7 +147,7 @@ module _ (y : Layout) (w b : List ℕ) (from5 : (l : Line) → List·Memᴰ l (y
       pub answer-section : (n p : ℕ) {r : Checked} → s ≡ At n p → r ≡ Refused n k (Word p) → Verdict (Fault y w b) k r
       answer-section n p q e = answered (Fault y w b) k n p (misplaced-first y w b from5 (sym large ∙ h) (sym other ∙ d) n p (sym sections ∙ q)) e
 
-      module _ (c : s ≡ Clear) (within : Within y w) {f : Found} (lines : f ≡ foundEach (foundIn w b) Clear (y .lines)) where
+      module _ (c : s ≡ Clear) (within : Within (y .header) (y .sections) (y .lines) w) {f : Found} (lines : f ≡ foundEach (foundIn w b) Clear (y .lines)) where
         pub answer-line : (n p : ℕ) {r : Checked} → f ≡ At n p → r ≡ Refused n k (Word p) → Verdict (Fault y w b) k r
         answer-line n p q e = answered (Fault y w b) k n p (line-due y w b from5 (sym large ∙ h) (sym other ∙ d) (sym sections ∙ c) within n p (sym lines ∙ q)) e
 

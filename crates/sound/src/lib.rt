@@ -42,24 +42,28 @@ pub enum Checked {
     Refused(u64, Bundle, Place),
 }
 
+// Whether the header is not whole, or there are too many words or bytes.
 fn is_too_large(words: &[u64], bytes: &[u8], header: usize) -> bool
     ensures { λ r. ⌜ r ≡ tooLarge header (now (words .entry)) (now (bytes .entry)) ⌝ }
 {
     (words.len() < header) | (MOST_WORDS < words.len()) | (MOST_BYTES < bytes.len())
 }
 
+// Whether the header counts too many certificates.
 fn has_too_many(words: &[u64]) -> bool
     ensures { λ r. ⌜ r ≡ ltb mostCerts (countOf (now (words .entry)) certs) ⌝ }
 {
     MOST_CERTS < table::count(words, CERTS)
 }
 
+// Whether the edition is not the one that is read.
 fn has_other_edition(words: &[u64]) -> bool
     ensures { λ r. ⌜ r ≡ not (eqb (wordOf (now (words .entry)) 0) edition) ⌝ }
 {
     word(words, 0) != EDITION
 }
 
+// The refusal of a bundle at one of its words.
 fn refused(n: u64, bundle: Bundle, p: usize) -> Checked
     ensures { λ r. ⌜ r ≡ Checked.Refused n bundle (Place.Word p) ⌝ }
 {

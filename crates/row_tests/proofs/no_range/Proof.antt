@@ -1,6 +1,5 @@
 use Rattle.row_tests.specs.Wrong.{noRange}
 use Rattle.row_tests.proofs.Reasons.{sum-past, sum-first, sum-both}
-use native.Mathlib.Omega.{arith}
 use borrow.Author.Needs.{needs}
 use Rattle.row_tests.proofs.no_range.Statement.{statement}
 use Rattle.row_tests.proofs.no_range.Tie as tie
