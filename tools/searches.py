@@ -1,15 +1,15 @@
-"""The proofs of the functions of crate sound that look at one thing after the other: sections, lines, and groups of lines."""
+"""The proofs of functions that look at one thing after the other: in crate lines sections, lines and groups of lines, in crate search the rows of a line."""
 
 # A function that looks at lines: its list in specs/Tables, and for each line the function that it calls.
-HEADER, ROWS, LIST = "in_header", "in_rows", "in_list"
+HEADER, ROWS, CERTS, MARK, RANGE, LIST = "in_header", "in_rows", "in_certs", "mark_over", "list_out", "in_list"
 LINES = {
     "tables_out": [HEADER] + 5 * [ROWS],
-    "cert_strings_out": 10 * [ROWS],
-    "cert_ranges_out": 6 * [ROWS],
-    "codes_over": 8 * [ROWS],
-    "marks_over": 9 * [ROWS],
+    "cert_strings_out": 10 * [CERTS],
+    "cert_ranges_out": 6 * [CERTS],
+    "codes_over": 2 * [ROWS] + 6 * [CERTS],
+    "marks_over": 9 * [MARK],
     "names_high": [HEADER, ROWS, ROWS, HEADER],
-    "lists_out": 2 * [ROWS] + 9 * [HEADER],
+    "lists_out": 2 * [ROWS] + 9 * [RANGE],
     "entries_high": 3 * [LIST],
 }
 SECTIONS = {"chain_misplaced": ("chainHeader", 6), "policy_misplaced": ("policyHeader", 2)}
@@ -46,21 +46,21 @@ def numbered(calls):
     seen = {}
     for call in calls:
         k = seen[call] = seen.get(call, 0) + 1
-        yield call, dashed(call) + (str(k) if k > 1 else ""), dashed(call) + "-requires" + (f"-{k}" if k > 1 else "")
+        yield dashed(call) + (str(k) if k > 1 else ""), dashed(call) + "-requires" + (f"-{k}" if k > 1 else "")
 
 
-def proof(name, calls, uses, requirement, returns):
-    """requirement(k, call) answers what call k asks; returns(facts) puts together what the calls ensure."""
+def proof(name, calls, uses, returns):
+    """returns(facts) puts together what the calls ensure."""
     calls = list(numbered(calls))
-    module = f"Rattle.sound.proofs.{name}"
+    module = f"Rattle.lines.proofs.{name}"
     lines = [f"use {use}" for use in uses + ["borrow.Author.Needs.{needs}", module + ".Statement.{statement}", module + ".Tie as tie"]]
-    for k, (call, _, need) in enumerate(calls):
-        lines += ["", f"{need} : tie.Need-{need}", f"{need} c κs = {requirement(k, call)}"]
-    facts = [f"({back(len(calls) - 1 - k)} .{fact} .ensures)" for k, (_, fact, _) in enumerate(calls)]
+    for _, need in calls:
+        lines += ["", f"{need} : tie.Need-{need}", f"{need} c κs = search needs"]
+    facts = [f"({back(len(calls) - 1 - k)} .{fact} .ensures)" for k, (fact, _) in enumerate(calls)]
     lines += ["", "returns : tie.Need-returns", f"returns c = {returns(facts)}", ""]
     spec = dashed(name) + "-spec"
     lines += [f"pub {spec} : {{M : Type 1}} → statement M", f"{spec} ="]
-    needs = [need for _, _, need in calls] + ["returns"]
+    needs = [need for _, need in calls] + ["returns"]
     lines += closing(needs)
     return "\n".join(lines) + "\n"
 
@@ -78,18 +78,17 @@ def nested(found, facts):
 
 
 def of_lines(name, calls):
-    uses = ["Rattle.sound.specs.Search.{foundIn}", "Rattle.sound.proofs.Steps.{each-more, each-done}"]
-    asked = lambda k, call: "search needs" if call == HEADER else f"{back(k + 2)} .pre" + k * " .1" + " .0"
-    return proof(name, calls, uses, asked, lambda facts: nested("(foundIn _ _)", facts))
+    uses = ["Rattle.search.specs.Found.{foundIn}", "Rattle.lines.proofs.Each.{each-more, each-done}"]
+    return proof(name, calls, uses, lambda facts: nested("(foundIn _ _)", facts))
 
 
 def of_sections(name, header, count):
     uses = [
         "Rattle.model.specs.Sections.{%s}" % header,
-        "Rattle.sound.specs.Search.{foundSection}",
-        "Rattle.sound.proofs.Steps.{each-more, each-done}",
+        "Rattle.search.specs.Found.{foundSection}",
+        "Rattle.lines.proofs.Each.{each-more, each-done}",
     ]
-    return proof(name, count * ["with_section"], uses, lambda k, call: "search needs", lambda facts: nested(f"(foundSection {header} _)", facts))
+    return proof(name, count * ["with_section"], uses, lambda facts: nested(f"(foundSection {header} _)", facts))
 
 
 def of_groups(name, groups):
@@ -97,22 +96,16 @@ def of_groups(name, groups):
     rest = lambda k: lists[k] if k == len(lists) - 1 else f"({lists[k]} ++ {rest(k + 1)})"
     uses = ["mathlib.Core.List.{_++_}"] if len(lists) > 2 else []
     uses += [
-        "Rattle.sound.specs.Search.{foundIn}",
-        "Rattle.sound.specs.Tables.{%s}" % ", ".join(lists),
-        "Rattle.sound.proofs.Steps.{each-then, fits-front, fits-rest}",
+        "Rattle.search.specs.Found.{foundIn}",
+        "Rattle.lines.specs.Tables.{%s}" % ", ".join(lists),
+        "Rattle.lines.proofs.Each.{each-then}",
     ]
-
-    def asked(k, call):
-        fits = f"({back(k + 2)} .pre)"
-        for j in range(k):
-            fits = f"(fits-rest _ {lists[j]} {rest(j + 1)} {fits})"
-        return fits[1:-1] if k == len(lists) - 1 else f"fits-front _ {lists[k]} {rest(k + 1)} {fits}"
 
     def returns(facts):
         then = [f"each-then (foundIn _ _) {lists[k]} {rest(k + 1)} _ {fact} " for k, fact in enumerate(facts[:-1])]
         return "(".join(then) + facts[-1] + (len(then) - 1) * ")"
 
-    return proof(name, groups, uses, asked, returns)
+    return proof(name, groups, uses, returns)
 
 
 def of_loop(name, parameters, sums, test, definition):
@@ -128,14 +121,14 @@ def of_loop(name, parameters, sums, test, definition):
         "lib.ListN.{length}",
         "Rattle.laws.specs.Lists.{least}",
         "Rattle.laws.proofs.Loops.{least-none}",
-        "Rattle.sound.specs.Wrong.{%s}" % definition.split()[0],
+        "Rattle.row_tests.specs.Wrong.{%s}" % definition.split()[0],
     ]
     if "(word " in definition:
         uses.append("Rattle.table.specs.Table.{word}")
     uses += [
-        "Rattle.sound.proofs.Steps.{row-first, row-next, row-fits, row-here, row-later}",
-        f"Rattle.sound.proofs.{name}.Statement.{{statement}}",
-        f"Rattle.sound.proofs.{name}.Tie as tie",
+        "Rattle.search.proofs.Steps.{row-first, row-next, row-fits, row-here, row-later}",
+        f"Rattle.search.proofs.{name}.Statement.{{statement}}",
+        f"Rattle.search.proofs.{name}.Tie as tie",
     ]
     state = f"{parameters} size count q₀ i₀ q i"
     call = dashed(test)
@@ -175,5 +168,5 @@ def files():
     made = {name: of_lines(name, calls) for name, calls in LINES.items()}
     made |= {name: of_sections(name, *section) for name, section in SECTIONS.items()}
     made |= {name: of_groups(name, groups) for name, groups in GROUPS.items()}
-    made |= {name: of_loop(name, *loop) for name, loop in LOOPS.items()}
-    return {f"crates/sound/proofs/{name}/Proof.antt": text for name, text in made.items()}
+    written = {f"crates/lines/proofs/{name}/Proof.antt": text for name, text in made.items()}
+    return written | {f"crates/search/proofs/{name}/Proof.antt": of_loop(name, *loop) for name, loop in LOOPS.items()}

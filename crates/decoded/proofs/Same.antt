@@ -8,8 +8,9 @@ use Rattle.laws.proofs.Tests.{or-left}
 use Rattle.table.specs.Table.{countOf, fieldOf}
 use Rattle.model.specs.Sections.{certs}
 use Rattle.model.specs.Decode.{optionalString, certWord, certAt}
-use Rattle.sound.specs.Fault.{Fault, chainLayout, rowsOf}
-use Rattle.sound.specs.Wrong.{there, over, extensionsWrong}
+use Rattle.search.specs.Rows.{rowsOf}
+use Rattle.sound.specs.Fault.{Fault, chainLayout}
+use Rattle.row_tests.specs.Wrong.{there, over, extensionsWrong}
 use Rattle.decoded.specs.Words.{readWords, wordsOf}
 use Rattle.decoded.proofs.Gives.{part-right, code-in-range}
 use Rattle.decoded.proofs.Codes.{part-word, part-mark, string-there, flag-word, flag-there, key-word, key-bits, extensions-word, signed-word, bits-word}

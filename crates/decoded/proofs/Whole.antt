@@ -12,12 +12,13 @@ use Rattle.table.specs.Table.{word, part, countOf, offsetOf, fieldOf, strings, 
 use Rattle.table.specs.declared.Section.{Section}
 use Rattle.model.specs.Sections.{attributes, rdns, names, usages, certs, entries, listCount}
 use Rattle.model.specs.Decode.{rowsIn, rdnRange, rdnAt, kindAt, nameIn, nameRange, generalsIn, certWord, certRange, certAt, ekuAt, sanAt, ncAt, listWord, listRange, listAt}
-use Rattle.sound.specs.declared.Block.the-variants.{Header}
-use Rattle.sound.specs.declared.Line.{Line}
-use Rattle.sound.specs.declared.Test.the-variants.{NotZero}
-use Rattle.sound.specs.Fault.{Fault, chainLayout, policyLayout, rowsOf, rowAt}
-use Rattle.sound.specs.Tables.{line, chainLines, policyLines}
-use Rattle.sound.specs.Wrong.{there, wrong, noRange, stringOut}
+use Rattle.search.specs.declared.Block.the-variants.{Header}
+use Rattle.search.specs.declared.Line.{Line}
+use Rattle.row_tests.specs.declared.Test.the-variants.{NotZero}
+use Rattle.search.specs.Rows.{rowsOf, rowAt}
+use Rattle.sound.specs.Fault.{Fault, chainLayout, policyLayout}
+use Rattle.lines.specs.Tables.{line, chainLines, policyLines}
+use Rattle.row_tests.specs.Wrong.{there, wrong, noRange, stringOut}
 use Rattle.decoded.proofs.Gives.{row-right, part-right, string-lies, range-lies, name-range}
 
 -- ---- parts and rows that lie inside are whole

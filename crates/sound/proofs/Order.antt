@@ -13,13 +13,15 @@ use Rattle.laws.specs.Lists.{pick, Least}
 use Rattle.laws.proofs.Meaning.{least-is}
 use Rattle.laws.proofs.Tests.{and-left, and-right, or-left, or-right}
 use Rattle.table.specs.declared.Section.{Section}
-use Rattle.sound.specs.declared.Line.{Line}
-use Rattle.sound.specs.declared.Found.{Found}
-use Rattle.sound.specs.declared.Found.the-variants.{Clear, At}
+use Rattle.row_tests.specs.Wrong.{wrong}
+use Rattle.search.specs.declared.Line.{Line}
+use Rattle.search.specs.declared.Found.{Found}
+use Rattle.search.specs.declared.Found.the-variants.{Clear, At}
+use Rattle.search.specs.Rows.{rowsOf, rowAt, misplaced}
+use Rattle.search.specs.Found.{earlierOf, inWords, searched, firstRow, foundAt, foundIn, foundSection}
 use Rattle.sound.specs.Answer.{Before, First}
-use Rattle.sound.specs.Fault.{InLine, rowsOf, rowAt, misplaced}
-use Rattle.sound.specs.Search.{earlierOf, firstRow, foundAt, foundIn, foundEach, foundSection}
-use Rattle.sound.specs.Wrong.{wrong}
+use Rattle.sound.specs.Fault.{InLine}
+use Rattle.lines.specs.Each.{foundEach}
 
 -- what was found is the first of the faults F
 abbrev pub FirstOf : (ℕ → ℕ → Type 0) → Found → Type 0
@@ -68,19 +70,19 @@ first-same F G t u Clear a = λ n p g. a n p (u n p g)
 first-same F G t u (At m q) a = record { due = t m q (a .due); before = λ n p o g. a .before n p o (u n p g) }
 
 -- ---- a list of things to look at, each with faults of its own
-module _ {A : Type 0} (G : A → ℕ → ℕ → Type 0) (found : A → Found) (each : (x : A) → FirstOf (G x) (found x)) where
+module _ {A : Type 0} (G : A → ℕ → ℕ → Type 0) (found : A → Found) where
   abbrev pub Some : List A → ℕ → ℕ → Type 0
   Some xs n p = (x : A) × List·Memᴰ x xs × G x n p
 
-  pub all-first : (F : ℕ → ℕ → Type 0) (f : Found) (xs : List A) → FirstOf F f → FirstOf (λ n p. F n p ⊎ Some xs n p) (foundEach found f xs)
+  pub all-first : (F : ℕ → ℕ → Type 0) (f : Found) (xs : List A) → ((x : A) → List·Memᴰ x xs → FirstOf (G x) (found x)) → FirstOf F f → FirstOf (λ n p. F n p ⊎ Some xs n p) (foundEach found f xs)
   unfolding foundEach
-  all-first F f [] a = first-same F (λ n p. F n p ⊎ Some [] n p) (λ n p h. inl h) (λ n p. ⊎-elim (λ h. h) (λ s. absurd (List·Memᴰ·not-nil (s .1)))) f a
-  all-first F f (x ∷ xs) a =
+  all-first F f [] each a = first-same F (λ n p. F n p ⊎ Some [] n p) (λ n p h. inl h) (λ n p. ⊎-elim (λ h. h) (λ s. absurd (List·Memᴰ·not-nil (s .1)))) f a
+  all-first F f (x ∷ xs) each a =
       first-same (λ n p. (F n p ⊎ G x n p) ⊎ Some xs n p) (λ n p. F n p ⊎ Some (x ∷ xs) n p)
       (λ n p. ⊎-elim (⊎-elim inl (λ g. inr (x, List·Memᴰ·head refl, g))) (λ s. inr (s .0, List·Memᴰ·tail (s .1), s .2)))
       (λ n p. ⊎-elim (λ h. inl (inl h)) (λ s. ⊎-elim (λ e. inl (inr (rw (← e) (s .2)))) (λ t. inr (s .0, t, s .2)) (List·Memᴰ·cases-cons (s .1))))
       (foundEach found (earlierOf f (found x)) xs)
-      (all-first (λ n p. F n p ⊎ G x n p) (earlierOf f (found x)) xs (earlier-first F (G x) f (found x) a (each x)))
+      (all-first (λ n p. F n p ⊎ G x n p) (earlierOf f (found x)) xs (λ y m. each y (List·Memᴰ·tail m)) (earlier-first F (G x) f (found x) a (each x (List·Memᴰ·head refl))))
 
 -- ---- a line: its first wrong row has the lowest word
 module _ (w b : List ℕ) (l : Line) where
@@ -106,9 +108,9 @@ module _ (w b : List ℕ) (l : Line) where
         }
     go false e = λ n p f. true≢false (sym (f .1 .3) ∙ s .before (f .1 .0) zero-le (omega (arith, f .1 .1, ltb-false m (rowsOf w (l .block) .count) e)))
 
-  pub found-first : FirstOf LineFault (foundIn w b l)
-  unfolding foundIn firstRow
-  found-first = line-first _ (least-is (λ i. wrong (l .test) w b (rowAt (rowsOf w (l .block)) i) (l .word)) 0 (rowsOf w (l .block) .count) zero-le)
+  pub found-first : inWords w (l .block) ≡ true → FirstOf LineFault (foundIn w b l)
+  unfolding foundIn firstRow searched
+  found-first e = rw e (line-first _ (least-is (λ i. wrong (l .test) w b (rowAt (rowsOf w (l .block)) i) (l .word)) 0 (rowsOf w (l .block) .count) zero-le))
 
 -- ---- a section
 module _ (header : ℕ) (w : List ℕ) (s : Section) where

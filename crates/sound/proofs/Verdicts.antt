@@ -9,9 +9,11 @@ use mathlib.Core.Bool.{Bool, true, false, not, true≢false}
 use lib.Dec.{eqb}
 use Rattle.table.specs.Table.{word}
 use Rattle.table.specs.declared.Section.{Section}
-use Rattle.sound.specs.declared.Line.{Line}
-use Rattle.sound.specs.declared.Found.{Found}
-use Rattle.sound.specs.declared.Found.the-variants.{Clear, At}
+use Rattle.search.specs.declared.Line.{Line}
+use Rattle.search.specs.declared.Found.{Found}
+use Rattle.search.specs.declared.Found.the-variants.{Clear, At}
+use Rattle.search.specs.Rows.{misplaced}
+use Rattle.search.specs.Found.{foundIn, foundSection}
 use Rattle.sound.specs.declared.Bundle.{Bundle}
 use Rattle.sound.specs.declared.Bundle.the-variants.{Chain, Policy}
 use Rattle.sound.specs.declared.Place.{Place}
@@ -19,8 +21,9 @@ use Rattle.sound.specs.declared.Place.the-variants.{Nothing, Word, Certi
 use Rattle.sound.specs.declared.Checked.{Checked}
 use Rattle.sound.specs.declared.Checked.the-variants.{Sound, Refused}
 use Rattle.sound.specs.Answer.{bundleNumber, placeKind, placeFirst, Before, First, Verdict}
-use Rattle.sound.specs.Fault.{Layout, Fault, size, otherEdition, section, row, edition, misplaced}
-use Rattle.sound.specs.Search.{foundIn, foundSection, foundEach}
+use Rattle.sound.specs.Fault.{Layout, Fault, size, otherEdition, section, row, edition}
+use Rattle.lines.specs.Each.{foundEach}
+use Rattle.sound.proofs.Fitting.{Within}
 use Rattle.sound.proofs.Order.{FirstOf, all-first, first-same, LineFault, found-first, SectionFault, section-first}
 
 module _ (y : Layout) (w b : List ℕ) (from5 : (l : Line) → List·Memᴰ l (y .lines) → 5 ≤ l .number) where
@@ -32,10 +35,7 @@ module _ (y : Layout) (w b : List ℕ) (from5 : (l : Line) → List·Memᴰ l (y
   Lines n p = (l : Line) × List·Memᴰ l (y .lines) × LineFault w b l n p
 
   sections-first : FirstOf Sections (foundEach (foundSection (y .header) w) Clear (y .sections))
-  sections-first = first-same (λ n p. ⊥ ⊎ Sections n p) Sections (λ n p. ⊎-elim absurd (λ h. h)) (λ n p h. inr h) (foundEach (foundSection (y .header) w) Clear (y .sections)) (all-first (SectionFault (y .header) w) (foundSection (y .header) w) (section-first (y .header) w) (λ n p. ⊥) Clear (y .sections) (λ n p h. h))
-
-  lines-first : FirstOf Lines (foundEach (foundIn w b) Clear (y .lines))
-  lines-first = first-same (λ n p. ⊥ ⊎ Lines n p) Lines (λ n p. ⊎-elim absurd (λ h. h)) (λ n p h. inr h) (foundEach (foundIn w b) Clear (y .lines)) (all-first (LineFault w b) (foundIn w b) (found-first w b) (λ n p. ⊥) Clear (y .lines) (λ n p h. h))
+  sections-first = first-same (λ n p. ⊥ ⊎ Sections n p) Sections (λ n p. ⊎-elim absurd (λ h. h)) (λ n p h. inr h) (foundEach (foundSection (y .header) w) Clear (y .sections)) (all-first (SectionFault (y .header) w) (foundSection (y .header) w) (λ n p. ⊥) Clear (y .sections) (λ s m. section-first (y .header) w s) (λ n p h. h))
 
   -- what a fault is, from each stage on
   stage4 : y .large ≡ false → not (eqb (word w 0) edition) ≡ false → (n p : ℕ) → Fault y w b n p → Sections n p ⊎ Lines n p
@@ -73,23 +73,27 @@ module _ (y : Layout) (w b : List ℕ) (from5 : (l : Line) → List·Memᴰ l (y
         no-section : (n p : ℕ) → Sections n p → ⊥
         no-section = rw c at sections-first
 
-        pub line-due : (n p : ℕ) → foundEach (foundIn w b) Clear (y .lines) ≡ At n p → First (Fault y w b) n p
-        line-due n p q =
-            let s : First Lines n p = rw q at lines-first in
-            let (l, m, (f, t)) = s .due in
-            record { due = row l m f t; before = λ i k o h. ⊎-elim (no-section i k) (s .before i k o) (stage4 g e i k h) }
-
-        pub all-sound : foundEach (foundIn w b) Clear (y .lines) ≡ Clear → (n p : ℕ) → Fault y w b n p → ⊥
-        all-sound q n p h =
-            let s : (n p : ℕ) → Lines n p → ⊥ = rw q at lines-first in
-            ⊎-elim (no-section n p) (s n p) (stage4 g e n p h)
-
         -- each section lies in the words
-        pub placed : (s : Section) → List·Memᴰ s (y .sections) → misplaced (y .header) w s ≡ false
+        placed : (s : Section) → List·Memᴰ s (y .sections) → misplaced (y .header) w s ≡ false
         placed s m = go (misplaced (y .header) w s) refl where
           go : (t : Bool) → misplaced (y .header) w s ≡ t → t ≡ false
           go true h = absurd (no-section 4 (s .count) (s, m, (refl, refl, h)))
           go false h = refl
+
+        module _ (within : Within (y .header) (y .sections) (y .lines) w) where
+          lines-first : FirstOf Lines (foundEach (foundIn w b) Clear (y .lines))
+          lines-first = first-same (λ n p. ⊥ ⊎ Lines n p) Lines (λ n p. ⊎-elim absurd (λ h. h)) (λ n p h. inr h) (foundEach (foundIn w b) Clear (y .lines)) (all-first (LineFault w b) (foundIn w b) (λ n p. ⊥) Clear (y .lines) (λ l m. found-first w b l (within placed l m)) (λ n p h. h))
+
+          pub line-due : (n p : ℕ) → foundEach (foundIn w b) Clear (y .lines) ≡ At n p → First (Fault y w b) n p
+          line-due n p q =
+              let s : First Lines n p = rw q at lines-first in
+              let (l, m, (f, t)) = s .due in
+              record { due = row l m f t; before = λ i k o h. ⊎-elim (no-section i k) (s .before i k o) (stage4 g e i k h) }
+
+          pub all-sound : foundEach (foundIn w b) Clear (y .lines) ≡ Clear → (n p : ℕ) → Fault y w b n p → ⊥
+          all-sound q n p h =
+              let s : (n p : ℕ) → Lines n p → ⊥ = rw q at lines-first in
+              ⊎-elim (no-section n p) (s n p) (stage4 g e n p h)
 
 -- ---- any two answers that the faults allow are equal
 three : (a b : ℕ) → (a < b) ⊎ ((a ≡ b) ⊎ (b < a))
@@ -143,13 +147,9 @@ module _ (y : Layout) (w b : List ℕ) (from5 : (l : Line) → List·Memᴰ l (y
       pub answer-section : (n p : ℕ) {r : Checked} → s ≡ At n p → r ≡ Refused n k (Word p) → Verdict (Fault y w b) k r
       answer-section n p q e = answered (Fault y w b) k n p (misplaced-first y w b from5 (sym large ∙ h) (sym other ∙ d) n p (sym sections ∙ q)) e
 
-      module _ (c : s ≡ Clear) where
-        pub sections-placed : (x : Section) → List·Memᴰ x (y .sections) → misplaced (y .header) w x ≡ false
-        sections-placed = placed y w b from5 (sym large ∙ h) (sym other ∙ d) (sym sections ∙ c)
+      module _ (c : s ≡ Clear) (within : Within (y .header) (y .sections) (y .lines) w) {f : Found} (lines : f ≡ foundEach (foundIn w b) Clear (y .lines)) where
+        pub answer-line : (n p : ℕ) {r : Checked} → f ≡ At n p → r ≡ Refused n k (Word p) → Verdict (Fault y w b) k r
+        answer-line n p q e = answered (Fault y w b) k n p (line-due y w b from5 (sym large ∙ h) (sym other ∙ d) (sym sections ∙ c) within n p (sym lines ∙ q)) e
 
-        module _ {f : Found} (lines : f ≡ foundEach (foundIn w b) Clear (y .lines)) where
-          pub answer-line : (n p : ℕ) {r : Checked} → f ≡ At n p → r ≡ Refused n k (Word p) → Verdict (Fault y w b) k r
-          answer-line n p q e = answered (Fault y w b) k n p (line-due y w b from5 (sym large ∙ h) (sym other ∙ d) (sym sections ∙ c) n p (sym lines ∙ q)) e
-
-          pub answer-sound : f ≡ Clear → Verdict (Fault y w b) k Sound
-          answer-sound q = all-sound y w b from5 (sym large ∙ h) (sym other ∙ d) (sym sections ∙ c) (sym lines ∙ q)
+        pub answer-sound : f ≡ Clear → Verdict (Fault y w b) k Sound
+        answer-sound q = all-sound y w b from5 (sym large ∙ h) (sym other ∙ d) (sym sections ∙ c) within (sym lines ∙ q)

@@ -1,22 +1,17 @@
 -- The faults of a bundle: which refusal is due at which word (document 01, "What the judge says"). Assumes nothing.
-use Prim.Native.Nat.{ℕ, _+_, _-_, _*_, _<_, _≤_}
+use Prim.Native.Nat.{ℕ, _+_, _<_}
 use mathlib.Core.Path.{_≡_}
-use mathlib.Core.List.{List, [], _∷_, List·Memᴰ}
+use mathlib.Core.List.{List, List·Memᴰ}
 use mathlib.Core.Bool.{Bool, true, not, _||_}
 use lib.Dec.{eqb, ltb}
 use lib.ListN.{length}
-use Rattle.laws.specs.Lists.{pick}
-use Rattle.table.specs.Table.{word, countOf, offsetOf}
+use Rattle.table.specs.Table.{word, countOf}
 use Rattle.table.specs.declared.Section.{Section}
-use Rattle.model.specs.Sections.{chainHeader, policyHeader, certs, entries}
-use Rattle.model.specs.Decode.{rowsIn}
-use Rattle.table.specs.declared.Range.{Range}
-use Rattle.sound.specs.declared.Rows.{Rows}
-use Rattle.sound.specs.declared.Block.{Block}
-use Rattle.sound.specs.declared.Block.the-variants.{Header, All, Listed}
-use Rattle.sound.specs.declared.Line.{Line}
-use Rattle.sound.specs.Tables.{chainLines, chainSections, policyLines, policySections}
-use Rattle.sound.specs.Wrong.{wrong}
+use Rattle.model.specs.Sections.{chainHeader, policyHeader, certs}
+use Rattle.row_tests.specs.Wrong.{wrong}
+use Rattle.search.specs.declared.Line.{Line}
+use Rattle.search.specs.Rows.{rowsOf, rowAt, misplaced}
+use Rattle.lines.specs.Tables.{chainLines, chainSections, policyLines, policySections}
 
 -- the limits
 abbrev pub mostWords : ℕ
@@ -32,31 +27,9 @@ mostCerts = 16
 abbrev pub edition : ℕ
 edition = 1
 
--- no rows
-abbrev pub noRows : Rows
-noRows = record { at = 0; size = 0; count = 0 }
-
--- rows of one word each: those of a range, of a section that begins at the word `at`
-abbrev pub rangeRows : ℕ → Range → Rows
-rangeRows at r = pick (ltb (r .from) (r .to)) (record { at = at + r .from; size = 1; count = r .to - r .from }) noRows
-
--- the rows of a line: the header, every row of a section, or the rows of L in the range at word p of the header
-unfoldable pub rowsOf : List ℕ → Block → Rows
-rowsOf w Header = record { at = 0; size = 0; count = 1 }
-rowsOf w (All s) = record { at = offsetOf w s; size = s .size; count = countOf w s }
-rowsOf w (Listed p) = rangeRows (offsetOf w entries) (rowsIn w entries (word w p) (word w (p + 1)))
-
--- where row i begins
-abbrev pub rowAt : Rows → ℕ → ℕ
-rowAt r i = r .at + r .size * i
-
 -- the line's fault is at the word p: it is the line's word of some row, and wrong
 unfoldable pub InLine : List ℕ → List ℕ → Line → ℕ → Type 0
 InLine w b l p = (i : ℕ) × (i < rowsOf w (l .block) .count) × (p ≡ rowAt (rowsOf w (l .block)) i + l .word) × (wrong (l .test) w b (rowAt (rowsOf w (l .block)) i) (l .word) ≡ true)
-
--- a section, even an empty one, begins in the header or ends past the words
-unfoldable pub misplaced : ℕ → List ℕ → Section → Bool
-misplaced header w s = ltb (offsetOf w s) header || ltb (length w) (offsetOf w s + s .size * countOf w s)
 
 -- words fewer than the header, or too many words or bytes
 unfoldable pub tooLarge : ℕ → List ℕ → List ℕ → Bool
@@ -90,12 +63,3 @@ pub data Fault (y : Layout) (w b : List ℕ) (n p : ℕ) : Type 0 where
   section : (s : Section) → List·Memᴰ s (y .sections) → n ≡ 4 → p ≡ s .count → misplaced (y .header) w s ≡ true → Fault y w b n p
   -- 5 to 8, line by line
   row : (l : Line) → List·Memᴰ l (y .lines) → n ≡ l .number → InLine w b l p → Fault y w b n p
-
--- every row of a line lies in the words
-unfoldable pub Fits : List ℕ → Line → Type 0
-Fits w l = rowAt (rowsOf w (l .block)) (rowsOf w (l .block) .count) ≤ length w
-
--- so does every row of each line
-abbrev pub AllFit : List ℕ → List Line → Type 0
-AllFit w [] = Unit {0}
-AllFit w (l ∷ ls) = Fits w l × AllFit w ls

@@ -3,8 +3,8 @@ use mathlib.Core.Bool.{_||_}
 use Rattle.sound.specs.declared.Bundle.the-variants.{Chain}
 use Rattle.sound.specs.Answer.{ChainVerdict}
 use Rattle.sound.specs.Fault.{chainLayout}
-use Rattle.sound.proofs.Fitting.{chain-from5, chain-fits}
-use Rattle.sound.proofs.Verdicts.{answer-size, answer-edition, answer-section, sections-placed, answer-line, answer-sound}
+use Rattle.sound.proofs.Fitting.{chain-from5, chain-within}
+use Rattle.sound.proofs.Verdicts.{answer-size, answer-edition, answer-section, answer-line, answer-sound}
 use borrow.Author.Needs.{needs}
 use Rattle.sound.proofs.check_chain.Statement.{statement}
 use Rattle.sound.proofs.check_chain.Tie as tie
@@ -49,7 +49,7 @@ enum-told : tie.Need-enum-told
 enum-told c = search needs
 
 chain-wrong-requires : tie.Need-chain-wrong-requires
-chain-wrong-requires c κs = let a = c .before .before .before .before .before .before .before .before .before .before .args in chain-fits _ (sections-placed (chainLayout (a .words .now) (a .bytes .now)) (a .words .now) (a .bytes .now) chain-from5 Chain (ap₂ _||_ (c .before .before .before .before .before .before .before .is-too-large .ensures) (c .before .before .before .before .before .before .has-too-many .ensures)) (c .before .before .before .before .before .if1 .left) (c .before .before .before .before .has-other-edition .ensures) (c .before .before .before .if2 .left) (c .before .before .chain-misplaced .ensures) (c .enum-told .given .1))
+chain-wrong-requires c κs = search needs
 
 enum-told-2 : tie.Need-enum-told-2
 enum-told-2 c = search needs
@@ -62,11 +62,11 @@ refused-requires-4 c κs = search needs
 
 returns-4 : tie.Need-returns-4
 unfolding ChainVerdict
-returns-4 c = answer-sound (chainLayout _ _) _ _ chain-from5 Chain (ap₂ _||_ (c .before .before .before .before .before .before .before .before .before .before .is-too-large .ensures) (c .before .before .before .before .before .before .before .before .before .has-too-many .ensures)) (c .before .before .before .before .before .before .before .before .if1 .left) (c .before .before .before .before .before .before .before .has-other-edition .ensures) (c .before .before .before .before .before .before .if2 .left) (c .before .before .before .before .before .chain-misplaced .ensures) (c .before .before .before .enum-told .given .1) (c .before .before .chain-wrong .ensures) (c .enum-told2 .given .1)
+returns-4 c = answer-sound (chainLayout _ _) _ _ chain-from5 Chain (ap₂ _||_ (c .before .before .before .before .before .before .before .before .before .before .is-too-large .ensures) (c .before .before .before .before .before .before .before .before .before .has-too-many .ensures)) (c .before .before .before .before .before .before .before .before .if1 .left) (c .before .before .before .before .before .before .before .has-other-edition .ensures) (c .before .before .before .before .before .before .if2 .left) (c .before .before .before .before .before .chain-misplaced .ensures) (c .before .before .before .enum-told .given .1) (chain-within _) (c .before .before .chain-wrong .ensures) (c .enum-told2 .given .1)
 
 returns-5 : tie.Need-returns-5
 unfolding ChainVerdict
-returns-5 c = answer-line (chainLayout _ _) _ _ chain-from5 Chain (ap₂ _||_ (c .before .before .before .before .before .before .before .before .before .before .before .before .is-too-large .ensures) (c .before .before .before .before .before .before .before .before .before .before .before .has-too-many .ensures)) (c .before .before .before .before .before .before .before .before .before .before .if1 .left) (c .before .before .before .before .before .before .before .before .before .has-other-edition .ensures) (c .before .before .before .before .before .before .before .before .if2 .left) (c .before .before .before .before .before .before .before .chain-misplaced .ensures) (c .before .before .before .before .before .enum-told .given .1) (c .before .before .before .before .chain-wrong .ensures) _ _ (c .before .before .f .given .1) (c .refused4 .ensures)
+returns-5 c = answer-line (chainLayout _ _) _ _ chain-from5 Chain (ap₂ _||_ (c .before .before .before .before .before .before .before .before .before .before .before .before .is-too-large .ensures) (c .before .before .before .before .before .before .before .before .before .before .before .has-too-many .ensures)) (c .before .before .before .before .before .before .before .before .before .before .if1 .left) (c .before .before .before .before .before .before .before .before .before .has-other-edition .ensures) (c .before .before .before .before .before .before .before .before .if2 .left) (c .before .before .before .before .before .before .before .chain-misplaced .ensures) (c .before .before .before .before .before .enum-told .given .1) (chain-within _) (c .before .before .before .before .chain-wrong .ensures) _ _ (c .before .before .f .given .1) (c .refused4 .ensures)
 
 pub check-chain-spec : {M : Type 1} → statement M
 check-chain-spec =

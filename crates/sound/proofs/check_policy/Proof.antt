@@ -1,8 +1,8 @@
 use Rattle.sound.specs.declared.Bundle.the-variants.{Policy}
 use Rattle.sound.specs.Answer.{PolicyVerdict}
 use Rattle.sound.specs.Fault.{policyLayout}
-use Rattle.sound.proofs.Fitting.{policy-from5, policy-fits}
-use Rattle.sound.proofs.Verdicts.{answer-size, answer-edition, answer-section, sections-placed, answer-line, answer-sound}
+use Rattle.sound.proofs.Fitting.{policy-from5, policy-within}
+use Rattle.sound.proofs.Verdicts.{answer-size, answer-edition, answer-section, answer-line, answer-sound}
 use borrow.Author.Needs.{needs}
 use Rattle.sound.proofs.check_policy.Statement.{statement}
 use Rattle.sound.proofs.check_policy.Tie as tie
@@ -44,7 +44,7 @@ enum-told : tie.Need-enum-told
 enum-told c = search needs
 
 policy-wrong-requires : tie.Need-policy-wrong-requires
-policy-wrong-requires c κs = let a = c .before .before .before .before .before .before .before .before .before .args in policy-fits _ (sections-placed (policyLayout (a .words .now) (a .bytes .now)) (a .words .now) (a .bytes .now) policy-from5 Policy (c .before .before .before .before .before .before .is-too-large .ensures) (c .before .before .before .before .before .if1 .left) (c .before .before .before .before .has-other-edition .ensures) (c .before .before .before .if2 .left) (c .before .before .policy-misplaced .ensures) (c .enum-told .given .1))
+policy-wrong-requires c κs = search needs
 
 enum-told-2 : tie.Need-enum-told-2
 enum-told-2 c = search needs
@@ -57,11 +57,11 @@ refused-requires-4 c κs = search needs
 
 returns-4 : tie.Need-returns-4
 unfolding PolicyVerdict
-returns-4 c = answer-sound (policyLayout _ _) _ _ policy-from5 Policy (c .before .before .before .before .before .before .before .before .before .is-too-large .ensures) (c .before .before .before .before .before .before .before .before .if1 .left) (c .before .before .before .before .before .before .before .has-other-edition .ensures) (c .before .before .before .before .before .before .if2 .left) (c .before .before .before .before .before .policy-misplaced .ensures) (c .before .before .before .enum-told .given .1) (c .before .before .policy-wrong .ensures) (c .enum-told2 .given .1)
+returns-4 c = answer-sound (policyLayout _ _) _ _ policy-from5 Policy (c .before .before .before .before .before .before .before .before .before .is-too-large .ensures) (c .before .before .before .before .before .before .before .before .if1 .left) (c .before .before .before .before .before .before .before .has-other-edition .ensures) (c .before .before .before .before .before .before .if2 .left) (c .before .before .before .before .before .policy-misplaced .ensures) (c .before .before .before .enum-told .given .1) (policy-within _) (c .before .before .policy-wrong .ensures) (c .enum-told2 .given .1)
 
 returns-5 : tie.Need-returns-5
 unfolding PolicyVerdict
-returns-5 c = answer-line (policyLayout _ _) _ _ policy-from5 Policy (c .before .before .before .before .before .before .before .before .before .before .before .is-too-large .ensures) (c .before .before .before .before .before .before .before .before .before .before .if1 .left) (c .before .before .before .before .before .before .before .before .before .has-other-edition .ensures) (c .before .before .before .before .before .before .before .before .if2 .left) (c .before .before .before .before .before .before .before .policy-misplaced .ensures) (c .before .before .before .before .before .enum-told .given .1) (c .before .before .before .before .policy-wrong .ensures) _ _ (c .before .before .f .given .1) (c .refused4 .ensures)
+returns-5 c = answer-line (policyLayout _ _) _ _ policy-from5 Policy (c .before .before .before .before .before .before .before .before .before .before .before .is-too-large .ensures) (c .before .before .before .before .before .before .before .before .before .before .if1 .left) (c .before .before .before .before .before .before .before .before .before .has-other-edition .ensures) (c .before .before .before .before .before .before .before .before .if2 .left) (c .before .before .before .before .before .before .before .policy-misplaced .ensures) (c .before .before .before .before .before .enum-told .given .1) (policy-within _) (c .before .before .before .before .policy-wrong .ensures) _ _ (c .before .before .f .given .1) (c .refused4 .ensures)
 
 pub check-policy-spec : {M : Type 1} → statement M
 check-policy-spec =
