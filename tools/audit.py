@@ -3,7 +3,7 @@
 
 - A public function has a row, an `ensures` and no `requires`. Its row names two wrong bodies, and the edits that stand in bold are in a must-fail folder. A row
   has its function, and an edit its row or its mention.
-- A parameter that is a number by itself is one of NUMBERS: what names a string, a certificate, a rule or a row has a type of its own.
+- A parameter that is a plain number stands in NUMBERS: what names a string, a certificate or a rule has a type of its own.
 - No definition in specs/ gives a symbol of the library a meaning of its own.
 - No log of a must-fail edit says that a name is missing: such an edit only unfits its proof file. The logs are those of the last `rt ci` in target/."""
 import pathlib
@@ -13,23 +13,29 @@ import sys
 TOP = pathlib.Path(sys.argv[1] if sys.argv[1:] else pathlib.Path(__file__).resolve().parent.parent)
 AUDIT = "docs/AUDIT.md"
 
-# Parameters that are plain numbers, by what they are: words and bytes of a bundle, counts, places of words, dates.
+# Functions that take plain numbers, and what these are: none names a string, a certificate or a rule.
 NUMBERS = {
-    "at": "the place of a word",
-    "begin": "a date",
-    "broken": "a test's answer",
-    "class": "a byte's class",
-    "count": "a count of rows",
-    "end": "a date",
-    "f": "the place of a word in a row",
-    "first": "the first row of a range, before it is cut",
-    "least": "a least size",
-    "length": "a length in the bytes",
-    "n": "a count of certificates or of rows",
-    "row": "a row of any section",
-    "start": "a place in the bytes",
-    "word": "a word of a bundle",
-    "x": "a byte",
+    "text::byte_table::entry_in": {"x": "a byte"},
+    "text::lower": {"x": "a byte"},
+    "text::class_of": {"x": "a byte"},
+    "text::has_class": {"class": "a class of bytes"},
+    "table::word": {"at": "the place of a word"},
+    "table::cut": {"start": "a place in the bytes", "len": "a length"},
+    "table::field": {"n": "a row of any section", "j": "the place of a word in a row"},
+    "table::clip": {"first": "a row of any section", "n": "a count of rows", "rows": "a count of rows"},
+    "model::chain::rows_in": {"first": "a row of any section", "n": "a count of rows"},
+    "model::chain::cert_word": {"j": "the place of a word in a row"},
+    "model::chain::cert_range": {"j": "the place of a word in a row"},
+    "model::chain::signed": {"word": "a word of a bundle"},
+    "fields::key_level::check_cert_key_level": {"least": "a count of bits"},
+    "roots::calendar::Calendar::span_valid": {"begin": "a date", "end": "a date"},
+    "row_tests::no_string": {"p": "the place of a word"},
+    "row_tests::no_range": {"p": "the place of a word"},
+    "row_tests::string_out": {"p": "the place of a word"},
+    "row_tests::number_high": {"p": "the place of a word"},
+    "row_tests::is_wrong": {"q": "the place of a row's first word", "j": "the place of a word in a row"},
+    "search::with_section": {"header": "a count of words"},
+    "faults::without": {"n": "a count of certificates", "k": "a count of certificates"},
 }
 INTEGER = re.compile(r"^(u8|u16|u32|u64|usize|i64)$")
 
@@ -72,7 +78,13 @@ def parameters(text):
 
 
 def edits():
-    return {edit.stem: edit for edit in TOP.glob("crates/*/must-fail/*.edit")} | {edit.stem: edit for edit in TOP.glob("crates/*/mixed/*.edit")}
+    """Each edit by its name, which no other has."""
+    kept = {}
+    for edit in sorted([*TOP.glob("crates/*/must-fail/*.edit"), *TOP.glob("crates/*/mixed/*.edit")]):
+        if edit.stem in kept:
+            sys.exit(f"two edits are called {edit.stem}: rename one")
+        kept[edit.stem] = edit
+    return kept
 
 
 def function_gaps(rows, kept):
@@ -84,7 +96,7 @@ def function_gaps(rows, kept):
         if "requires" in contract:
             yield f"{name} has a requires"
         for parameter, kind in parameters(takes):
-            if INTEGER.match(kind) and parameter not in NUMBERS:
+            if INTEGER.match(kind) and parameter not in NUMBERS.get(name, {}):
                 yield f"{name}: `{parameter}` is a bare {kind}; give it a type of its own, or say in tools/audit.py what number it is"
         if name not in rows:
             yield f"{name} has no row in {AUDIT}"
@@ -123,9 +135,9 @@ def symbol_gaps():
 
 
 def log_gaps():
-    for log in sorted((TOP / "target" / "must-fail").glob("*/*.out")):
+    for log in sorted((TOP / "target" / "must-fail").glob("*/*/.log")):
         if "that can be named from here" in log.read_text(errors="replace"):
-            yield f"the edit {log.parent.name}/{log.stem} only unfits its proof file"
+            yield f"the edit {log.parent.parent.name}/{log.parent.name} only unfits its proof file"
 
 
 def main():
