@@ -3,7 +3,9 @@ ghost use mathlib.Core.Path.{_≡_};
 ghost use Prim.Native.Nat.{_-_};
 ghost use Rattle.laws.specs.Lists.{all};
 ghost use Rattle.model.specs.Decode.{oidAt, attributeAt, rdnAt, nameIn};
+ghost use Rattle.names.specs.Numbers.{sameNumbers};
 ghost use Rattle.names.specs.Names.{sameValue, sameAttr, sameRdn, sameDn, rdnHasName, isSubtreeRdn, isSubtreeOf, rdnIn};
+use model::chain::ATTRIBUTES;
 use model::chain::AttributeNo;
 use model::chain::RdnNo;
 use table::Range;
@@ -45,10 +47,22 @@ fn same_as(
     false
 }
 
-// Whether two attributes are the same.
+// Whether two attributes have the same string numbers, for OID and value.
+fn same_numbers(words: &[u64], a: AttributeNo, b: AttributeNo) -> bool
+    ensures { λ r. ⌜ r ≡ sameNumbers (now (words .entry)) (a .0) (b .0) ⌝ }
+{
+    let oids = table::field(words, ATTRIBUTES, a.0, 0) == table::field(words, ATTRIBUTES, b.0, 0);
+    let values = table::field(words, ATTRIBUTES, a.0, 1) == table::field(words, ATTRIBUTES, b.0, 1);
+    oids & values
+}
+
+// Whether two attributes are the same. Where they have the same string numbers, no text has to be looked at.
 pub fn same_attr(words: &[u64], bytes: &[u8], v: Values, a: AttributeNo, b: AttributeNo) -> bool
     ensures { λ r. ⌜ r ≡ sameAttr v (attributeAt (now (words .entry)) (now (bytes .entry)) (a .0)) (attributeAt (now (words .entry)) (now (bytes .entry)) (b .0)) ⌝ }
 {
+    if same_numbers(words, a, b) {
+        return true;
+    }
     same_as(words, bytes, v, a, b, model::chain::oid(words, bytes, b))
 }
 
