@@ -76,17 +76,17 @@ module _ (c : Chain) where
   -- ---- rules 9 to 12
   module _ (ca : (i : ℕ) → 1 ≤ i → i < c .count → checkCa (c .cert i) ≡ true) where
     pub non-leaf-must-be-ca : NonLeafMustBeCA c
-    non-leaf-must-be-ca i m l = check-ca-means (c .cert i) .0 (ca i m l) .0
+    non-leaf-must-be-ca i m l = check-ca-means (c .cert i) .0 (ca i (omega arith) l) .0
 
     pub non-leaf-has-key-cert-sign : NonLeafHasKeyCertSign c
-    non-leaf-has-key-cert-sign i m l = check-ca-means (c .cert i) .0 (ca i m l) .1
+    non-leaf-has-key-cert-sign i m l = check-ca-means (c .cert i) .0 (ca i (omega arith) l) .1
 
   module _ (long : (i : ℕ) → i < c .count → pathLengthHolds i (c .cert i) ≡ true) where
     pub path-len-non-negative : PathLenNonNegative c
     path-len-non-negative i l b e n f = path-length-holds-means i (c .cert i) .0 (long i l) b e n f .0
 
     pub path-len-constraint : PathLenConstraint c
-    path-len-constraint i m l b e n f a k = path-length-holds-means i (c .cert i) .0 (long i l) b e n f .1 m
+    path-len-constraint i m l b e n f a k = path-length-holds-means i (c .cert i) .0 (long i l) b e n f .1 (omega arith)
 
   pub non-empty-san : ((i : ℕ) → i < c .count → checkSan (c .cert i) ≡ true) → NonEmptySAN c
   non-empty-san h i l = check-san-means (c .cert i) .0 (h i l)
@@ -114,4 +114,4 @@ module _ (c : Chain) where
     non-leaf-has-ski ca i m l = by-version (leb 2 (c .cert i .version)) (and-right (idsNotCritical (c .cert i)) _ (ids i l)) where
       by-version : (t : Bool) → pick t (hasKeyIds (isRoot c i) (eqb i 0) (c .cert i)) (hasNoParts (c .cert i)) ≡ true → (s : Ski) × (c .cert i .ski ≡ some s)
       by-version true h = is-there-means (c .cert i .ski) .0 (rw (ne-eqb i 0 (λ e. omega arith)) at (and-right (isRoot c i || thereAnd (λ (a : Aki). isThere (a .keyId)) (c .cert i .aki)) _ h))
-      by-version false h = let (b, e, y) = ca i m l in absurd (no-bc (c .cert i) b h e)
+      by-version false h = let (b, e, y) = ca i (omega arith) l in absurd (no-bc (c .cert i) b h e)
