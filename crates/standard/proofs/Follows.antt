@@ -2,7 +2,7 @@
 use Prim.Native.Nat.{ℕ, _-_, _≤_, _<_}
 use native.Mathlib.Omega.{arith}
 use mathlib.Core.Path.{_≡_, refl}
-use mathlib.Core.Logic.{_⊎_, inl, inr, ⊎-elim}
+use mathlib.Core.Logic.{_⊎_, inl, inr, ⊎-elim, ⊎-map}
 use mathlib.Core.Bool.{Bool, true, false, not, _||_, false≢true, or-assoc, or-true, and-false}
 use mathlib.Core.Option.{some}
 use lib.Dec.{eqb, leb}
@@ -68,7 +68,7 @@ module _ (c : Chain) where
   unfolding issuerSubjectUidVersion
   issuer-subject-uid-version h i l u = ⊎-elim (λ (t, e). fits (rw e refl)) (λ (t, e). fits (rw (e, or-true) refl)) u where
     fits : hasUid (c .cert i) ≡ true → (c .cert i .version ≡ 2) ⊎ (c .cert i .version ≡ 3)
-    fits t = ⊎-elim (λ v. inl (eqb-true _ _ v)) (λ v. inr (eqb-true _ _ v)) (either (eqb (c .cert i .version) 2) (eqb (c .cert i .version) 3) (λ v. v) (rw t at (h i l)))
+    fits t = ⊎-map (eqb-true _ _) (λ v. v) (either (eqb (c .cert i .version) 2) _ (eqb-true (c .cert i .version) 3) (rw t at (h i l)))
 
   pub no-dsa : (least : ℕ) → ((i : ℕ) → i < c .count → checkCertKeyLevel least false (c .cert i) ≡ true) → NoDSA c
   no-dsa least h i l e = false≢true (check-cert-key-level-means least false (c .cert i) .0 (h i l) .1 e)
