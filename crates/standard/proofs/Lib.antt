@@ -1,0 +1,4 @@
+pub mod Accepted
+pub mod Chrome
+pub mod Follows
+pub mod OpenSsl
