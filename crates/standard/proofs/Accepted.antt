@@ -6,10 +6,10 @@ use mathlib.Core.Logic.{inl, inr}
 use mathlib.Core.List.{List, _∷_, List·Memᴰ}
 use Rattle.model.specs.Model.{Chain, Lists}
 use Rattle.model.specs.Decode.{chainOf, listsOf}
+use Rattle.search.specs.declared.Line.{Line}
 use Rattle.sound.specs.Fault.{Layout, Fault, size, otherEdition, section, row, chainLayout, policyLayout}
 use Rattle.sound.specs.Answer.{ChainVerdict, PolicyVerdict}
 use Rattle.sound.specs.declared.Bundle.{Bundle}
-use Rattle.sound.specs.declared.Line.{Line}
 use Rattle.sound.specs.declared.Place.{Place}
 use Rattle.sound.specs.declared.Place.the-variants.{Nothing}
 use Rattle.sound.specs.declared.Checked.{Checked}
