@@ -5,14 +5,13 @@ use native.Mathlib.Decide.{decLt}
 use native.Mathlib.Nat.{zero-add}
 use mathlib.Core.Path.{_≡_, refl, sym, _∙_}
 use mathlib.Core.List.{List}
-use mathlib.Core.Bool.{Bool, true, false, _&&_, _||_, Bool·beq, and-false, false≢true}
-use borrow.Author.Tests.{eqb-true, eqb-false, ne-eqb, le-leb, lt-leb}
+use mathlib.Core.Bool.{Bool, true, false, _&&_, Bool·beq, and-false, false≢true}
+use borrow.Author.Tests.{eqb-true, ne-eqb, le-leb, lt-leb}
 use lib.Dec.{leb, eqb}
 use lib.ListN.{getD}
 use Rattle.laws.specs.Lists.{all, numbers, rows, run, pick}
 use Rattle.laws.proofs.Meaning.{all-every}
 use Rattle.laws.proofs.Rows.{rows-at}
-use Rattle.laws.proofs.Tests.{or-left, or-right}
 use Rattle.text.specs.Bytes.{isUpper, isDot, isStar, isSpace, isHostByte, lowerByte, classOf, entryOf, wholeTable, letter, dot, star, space, high}
 
 -- ---- one law carries what is tested on the first numbers to each of them
@@ -97,18 +96,6 @@ unfolding all rows run classOf
 class-host = agree _ _ refl (λ x h. rw (class-above x h) (sym (host-above x h)))
 
 -- ---- what lowering keeps
--- two bytes that are neither equal nor 32 apart don't become equal, whichever of them is raised by 32
-far : (a b : Bool) (x y : ℕ) → (x ≡ y → ⊥) → (x + 32 ≡ y → ⊥) → (y + 32 ≡ x → ⊥) → pick a (x + 32) x ≡ pick b (y + 32) y → ⊥
-far true true x y n m l e = n (omega arith)
-far true false x y n m l e = m e
-far false true x y n m l e = l (sym e)
-far false false x y n m l e = n e
-
-pub far-apart : (a b : Bool) (x y : ℕ) → (eqb x y || eqb (x + 32) y || eqb (y + 32) x) ≡ false → eqb (pick a (x + 32) x) (pick b (y + 32) y) ≡ false
-far-apart a b x y h =
-    let o : (eqb x y || eqb (x + 32) y) ≡ false = or-left (eqb x y || eqb (x + 32) y) _ h in
-    ne-eqb _ _ (far a b x y (eqb-false _ _ (or-left (eqb x y) _ o)) (eqb-false _ _ (or-right (eqb x y) _ o)) (eqb-false _ _ (or-right (eqb x y || eqb (x + 32) y) _ h)))
-
 pub lower-idempotent : (x : ℕ) → lowerByte (lowerByte x) ≡ lowerByte x
 unfolding all rows run lowerByte
 lower-idempotent x = elim (decLt x 128) [ yes h ↦ eqb-true _ _ (tested (λ x. eqb (lowerByte (lowerByte x)) (lowerByte x)) 128 refl x h) | no h ↦ let e : lowerByte x ≡ x = lower-above x (omega arith) in rw (e, e) refl ]

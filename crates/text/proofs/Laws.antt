@@ -1,5 +1,5 @@
 -- Texts: what lowering keeps, beginnings and ends, covering. Assumes nothing.
-use Prim.Native.Nat.{ℕ, suc, _+_, _-_, _≤_, _<_}
+use Prim.Native.Nat.{ℕ, suc, _-_, _≤_, _<_}
 use native.Mathlib.Omega.{arith}
 use native.Mathlib.Decide.{decLt}
 use mathlib.Core.Path.{_≡_, refl, sym, _∙_}
@@ -13,18 +13,13 @@ use Rattle.laws.specs.Lists.{each, eqList}
 use Rattle.laws.proofs.Equal.{each-map, each-length}
 use Rattle.laws.proofs.Parts.{rest, map-drop, map-take}
 use Rattle.laws.proofs.Tests.{eqb-sym}
-use Rattle.text.specs.Bytes.{isUpper, isDot, dot, lowerByte, classOf}
+use Rattle.text.specs.Bytes.{isDot, dot, lowerByte, classOf}
 use Rattle.text.specs.Texts.{Text, quoted, lowered, takenByte, taken, startsWith, endsWith, covers, matchDnsName}
-use Rattle.text.proofs.Chars.{class-dot, lower-dot, lower-star, far-apart}
+use Rattle.text.proofs.Chars.{class-dot, lower-dot, lower-star}
 use Rattle.text.specs.declared.Letters.{Letters}
 use Rattle.text.specs.declared.Letters.the-variants.{AsGiven, Lowered}
 
 -- ---- a pattern's byte against a name's, by how the letters are taken
-pub apart : (letters : Letters) (x y : ℕ) {r : Bool} → r ≡ (eqb x y || eqb (x + 32) y || eqb (y + 32) x) → r ≡ false → false ≡ eqb (takenByte letters x) (lowerByte y)
-unfolding lowerByte
-apart AsGiven x y e h = sym (far-apart false (isUpper y) x y (sym e ∙ h))
-apart Lowered x y e h = sym (far-apart (isUpper x) (isUpper y) x y (sym e ∙ h))
-
 module _ (letters : Letters) (x y : ℕ) where
   pub as-given : letters ≡ AsGiven → {r : ℕ} → r ≡ lowerByte y → eqb x r ≡ eqb (takenByte letters x) (lowerByte y)
   as-given e t = rw (e, t) refl

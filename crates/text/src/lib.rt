@@ -3,7 +3,6 @@ pub mod byte_table;
 
 ghost use mathlib.Core.Path.{_≡_};
 ghost use Prim.Native.Nat.{_+_};
-ghost use mathlib.Core.Bool.{_||_};
 ghost use lib.Dec.{eqb};
 ghost use lib.ListN.{length};
 ghost use Rattle.laws.specs.Lists.{any, all, eqList};
@@ -25,12 +24,14 @@ pub enum Letters {
     Lowered,
 }
 
-// The lower-case form of a byte.
+// The lower-case form of a byte. It is the table's, told without it: a loop that looks into the table fetches the whole of it first, and texts are short.
 pub fn lower(x: u8) -> u8
     ensures { λ r. ⌜ r ≡ lowerByte x ⌝ }
 {
-    let table = byte_table::whole();
-    (byte_table::entry_in(&table, x) % 256) as u8
+    if (65 <= x) & (x <= 90) {
+        return x + 32;
+    }
+    x
 }
 
 // The class of a byte.
@@ -129,29 +130,18 @@ pub fn same(a: &[u8], b: &[u8]) -> bool
     agree(a, b)
 }
 
-// Whether two bytes are equal or 32 apart. Two others never become equal by lowering, so that most differences need no table.
-fn near(x: u8, y: u8) -> bool
-    ensures { λ r. ⌜ r ≡ (eqb x y || eqb (x + 32) y || eqb (y + 32) x) ⌝ }
-{
-    (x == y) | (x as u16 + 32 == y as u16) | (y as u16 + 32 == x as u16)
-}
-
 fn lowered_equal(x: u8, y: u8) -> bool
     ensures { λ r. ⌜ r ≡ eqb (lowerByte x) (lowerByte y) ⌝ }
 {
     if x == y {
         return true;
     }
-    let table = byte_table::whole();
-    byte_table::entry_in(&table, x) % 256 == byte_table::entry_in(&table, y) % 256
+    lower(x) == lower(y)
 }
 
 fn taken_equal(letters: Letters, x: u8, y: u8) -> bool
     ensures { λ r. ⌜ r ≡ eqb (takenByte letters x) (lowerByte y) ⌝ }
 {
-    if !near(x, y) {
-        return false;
-    }
     match letters {
         Letters::AsGiven => x == lower(y),
         Letters::Lowered => lowered_equal(x, y),

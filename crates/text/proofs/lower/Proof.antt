@@ -1,20 +1,22 @@
 use native.Mathlib.Omega.{arith}
-use Rattle.text.proofs.Chars.{entry-lower}
-use borrow.Author.Needs.{needs}
+use mathlib.Core.Path.{refl}
+use lib.Dec.{leb}
+use borrow.Author.Tests.{leb-true}
+use Rattle.laws.proofs.Tests.{and-right}
+use Rattle.text.specs.Bytes.{lowerByte}
 use Rattle.text.proofs.lower.Statement.{statement}
 use Rattle.text.proofs.lower.Tie as tie
 
-whole-requires : tie.Need-whole-requires
-whole-requires c κs = search needs
-
-entry-in-requires : tie.Need-entry-in-requires
-entry-in-requires c κs = search needs
-
-cast-result : tie.Need-cast-result
-cast-result c = search needs
+add-result : tie.Need-add-result
+add-result c = let x = c .before .args .x in omega (arith, leb-true x 90 (and-right (leb 65 x) (leb x 90) (c .if1 .taken)))
 
 returns : tie.Need-returns
-returns c = entry-lower _ (omega arith) _ (c .before .before .whole .ensures) (c .entry-in .ensures)
+unfolding lowerByte
+returns c = rw (c .if1 .taken) refl
+
+returns-2 : tie.Need-returns-2
+unfolding lowerByte
+returns-2 c = rw (c .if1 .left) refl
 
 pub lower-spec : {M : Type 1} → statement M
-lower-spec = tie.close (tie.spec whole-requires entry-in-requires cast-result returns)
+lower-spec = tie.close (tie.spec add-result returns returns-2)

@@ -1,14 +1,7 @@
-use borrow.Author.Tests.{not-true}
-use Rattle.text.proofs.Laws.{apart, as-given, both-lowered}
 use borrow.Author.Needs.{needs}
+use Rattle.text.proofs.Laws.{as-given, both-lowered}
 use Rattle.text.proofs.taken_equal.Statement.{statement}
 use Rattle.text.proofs.taken_equal.Tie as tie
-
-near-requires : tie.Need-near-requires
-near-requires c κs = search needs
-
-returns : tie.Need-returns
-returns c = let a = c .before .before .args in apart (a .letters) (a .x) (a .y) (c .before .near .ensures) (not-true _ (c .if1 .taken))
 
 enum-told : tie.Need-enum-told
 enum-told c = search needs
@@ -22,21 +15,13 @@ enum-told-2 c = search needs
 lowered-equal-requires : tie.Need-lowered-equal-requires
 lowered-equal-requires c κs = search needs
 
-returns-2 : tie.Need-returns-2
-returns-2 c = as-given _ _ _ (c .before .enum-told .given .1) (c .lower .ensures)
+returns : tie.Need-returns
+returns c = as-given _ _ _ (c .before .enum-told .given .1) (c .lower .ensures)
 
-returns-3 : tie.Need-returns-3
-returns-3 c = both-lowered _ _ _ (c .before .enum-told2 .given .1) (c .lowered-equal .ensures)
+returns-2 : tie.Need-returns-2
+returns-2 c = both-lowered _ _ _ (c .before .enum-told2 .given .1) (c .lowered-equal .ensures)
 
 pub taken-equal-spec : {M : Type 1} → statement M
 taken-equal-spec =
     tie.close
-    (tie.spec
-    near-requires
-    returns
-    enum-told
-    lower-requires
-    enum-told-2
-    lowered-equal-requires
-    returns-2
-    returns-3)
+    (tie.spec enum-told lower-requires enum-told-2 lowered-equal-requires returns returns-2)
