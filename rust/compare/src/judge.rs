@@ -73,7 +73,7 @@ pub fn named(name: &str) -> Option<Judge> {
 
 #[cfg(feature = "library")]
 pub fn library() -> Option<Judge> {
-    Some(Judge { name: "library".into(), openssl: udrasmil::raw::openssl, chrome: udrasmil::raw::CHROME })
+    Some(Judge { name: "library".into(), openssl: udrasmil::raw::openssl, chrome: Some(udrasmil::raw::chrome) })
 }
 
 #[cfg(not(feature = "library"))]

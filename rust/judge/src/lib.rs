@@ -12,7 +12,7 @@ mod telling;
 use file::Content;
 use std::ffi::{OsStr, OsString};
 use telling::Case;
-use udrasmil::{openssl, Answer, Policy, Report, CHROME};
+use udrasmil::{chrome, openssl, Answer, Policy, Report};
 
 /// What the program prints, and its status.
 pub struct Said {
@@ -38,7 +38,6 @@ fn by_openssl(chain: &OsStr) -> Result<Said, String> {
 }
 
 fn by_chrome(chain: &OsStr, lists: &OsStr) -> Result<Said, String> {
-    let chrome = CHROME.ok_or("this program was built without Chrome's judge: judge by openssl")?;
     let (chain, lists, mut report) = (file::read(chain)?, file::read(lists)?, Report::new());
     let answer = chrome(&chain.words, &chain.bytes, &lists.words, &lists.bytes, &mut report);
     Ok(said(&Case { policy: Policy::Chrome, chain, lists }, &answer, &report))

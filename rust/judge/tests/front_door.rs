@@ -93,14 +93,9 @@ fn samples_are_told_in_words() {
     );
 }
 
-/// Whether Chrome's judge is built in or not, the program says something that is true.
 #[test]
 fn chrome_takes_its_lists() {
     let lists = sample("policy");
-    if udrasmil::CHROME.is_none() {
-        in_trouble(&["chrome", &sample("valid"), &lists], "built without Chrome's judge");
-        return;
-    }
     assert_eq!(judge(&["chrome", &sample("valid"), &lists]).text, "accepted: no rule of Chrome is broken\n");
     let said = judge(&["chrome", &sample("expired"), &lists]);
     let rules = ["rule 2, certificate 0 (leaf, ", "rule 18, certificate 0 (leaf, "];

@@ -38,17 +38,6 @@ pub use answer::{Answer, Bundle, Place};
 pub use numbers::{Policy, Position, Refusal, Rule, Word};
 pub use report::{Entries, Entry, Report, REPORT_WORDS};
 
-/// A judge by Chrome's policy, as [`CHROME`] has it.
-pub type Chrome = fn(&[u64], &[u8], &[u64], &[u8], &mut Report<'_>) -> Answer;
-
-/// [`chrome`], since the linked library has it.
-#[cfg(feature = "chrome")]
-pub const CHROME: Option<Chrome> = Some(chrome);
-
-/// None, since the feature `chrome` is off and so the linked library has no judge by Chrome's policy.
-#[cfg(not(feature = "chrome"))]
-pub const CHROME: Option<Chrome> = None;
-
 /// Judges a chain as an OpenSSL client would.
 ///
 /// # Panics
@@ -63,7 +52,6 @@ pub fn openssl(words: &[u64], bytes: &[u8], report: &mut Report<'_>) -> Answer {
 /// # Panics
 ///
 /// Never with the proved library. Another one whose words the header doesn't allow is not read, but stopped.
-#[cfg(feature = "chrome")]
 pub fn chrome(
     words: &[u64],
     bytes: &[u8],

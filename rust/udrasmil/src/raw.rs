@@ -15,7 +15,6 @@ extern "C" {
         answer: *mut u64,
     );
 
-    #[cfg(feature = "chrome")]
     fn udrasmil_judge_chrome(
         words: *const u64,
         nwords: usize,
@@ -30,17 +29,6 @@ extern "C" {
         answer: *mut u64,
     );
 }
-
-/// A judge by Chrome's policy: the chain's words and bytes, the policy's words and bytes, the report.
-pub type Chrome = fn(&[u64], &[u8], &[u64], &[u8], &mut [u32]) -> [u64; 8];
-
-/// [`chrome`], since the linked library has it.
-#[cfg(feature = "chrome")]
-pub const CHROME: Option<Chrome> = Some(chrome);
-
-/// None, since the feature `chrome` is off and so the linked library has no judge by Chrome's policy.
-#[cfg(not(feature = "chrome"))]
-pub const CHROME: Option<Chrome> = None;
 
 /// The answer's eight words by OpenSSL's policy; the entries that fit are written into the report.
 pub fn openssl(words: &[u64], bytes: &[u8], report: &mut [u32]) -> [u64; 8] {
@@ -63,7 +51,6 @@ pub fn openssl(words: &[u64], bytes: &[u8], report: &mut [u32]) -> [u64; 8] {
 }
 
 /// The answer's eight words by Chrome's policy; the entries that fit are written into the report.
-#[cfg(feature = "chrome")]
 pub fn chrome(words: &[u64], bytes: &[u8], pwords: &[u64], pbytes: &[u8], report: &mut [u32]) -> [u64; 8] {
     let mut answer = [UNANSWERED; 8];
     // SAFETY: as in `openssl`. Both bundles are only read, so they may be the same.

@@ -1,7 +1,7 @@
 //! The wrapper says of generated bundles what the plain judge's words say, and touches no other word of a lent room.
 
 use generate::{case, Case};
-use udrasmil::{Answer, Policy, Report, CHROME};
+use udrasmil::{Answer, Policy, Report};
 
 const SEED: u64 = 20_261_115;
 const CASES: u64 = 3000;
@@ -26,13 +26,10 @@ fn openssl_answers_as_the_plain_judge() {
 
 #[test]
 fn chrome_answers_as_the_plain_judge() {
-    let Some(chrome) = CHROME else {
-        return;
-    };
     for index in 0..CASES {
         let Case { words, bytes, pwords, pbytes, report } = &case(SEED, index);
         let plain = |room: &mut [u32]| plain::judge_chrome(words, bytes, pwords, pbytes, room);
-        let proved = |report: &mut Report| chrome(words, bytes, pwords, pbytes, report);
+        let proved = |report: &mut Report| udrasmil::chrome(words, bytes, pwords, pbytes, report);
         agree(index, *report, &Pair { policy: Policy::Chrome, plain: &plain, proved: &proved });
     }
 }

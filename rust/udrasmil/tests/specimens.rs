@@ -1,4 +1,4 @@
-//! Document 01's specimens, asked of the whole judge.
+//! Document 01's specimens, asked of the proved judge and of the plain one.
 
 use generate::model::*;
 use generate::rng::Rng;
@@ -11,15 +11,28 @@ fn packed(chain: &Chain) -> Bundle {
     write::chain(&mut Rng::new(0, 0), Layout::Packed, chain)
 }
 
+/// The entries that both judges give.
+fn both(plain: impl Fn(&mut [u32]) -> [u64; 8], proved: impl Fn(&mut [u32]) -> [u64; 8]) -> Vec<[u32; 3]> {
+    let entries = plain::entries(plain);
+    assert_eq!(plain::entries(proved), entries, "the proved judge beside the plain one");
+    entries
+}
+
 fn openssl(chain: &Chain) -> Vec<[u32; 3]> {
-    let bundle = packed(chain);
-    plain::entries(|report| plain::judge_openssl(&bundle.words, &bundle.bytes, report))
+    let Bundle { words, bytes } = &packed(chain);
+    both(
+        |report| plain::judge_openssl(words, bytes, report),
+        |report| udrasmil::raw::openssl(words, bytes, report),
+    )
 }
 
 fn chrome(chain: &Chain, lists: &Lists) -> Vec<[u32; 3]> {
-    let bundle = packed(chain);
+    let Bundle { words, bytes } = &packed(chain);
     let policy = write::policy(&mut Rng::new(0, 0), Layout::Packed, lists);
-    plain::entries(|report| plain::judge_chrome(&bundle.words, &bundle.bytes, &policy.words, &policy.bytes, report))
+    both(
+        |report| plain::judge_chrome(words, bytes, &policy.words, &policy.bytes, report),
+        |report| udrasmil::raw::chrome(words, bytes, &policy.words, &policy.bytes, report),
+    )
 }
 
 #[test]
@@ -127,14 +140,16 @@ fn whole_report() {
     chain.certificates[0].not_after = chain.now - 1;
     chain.certificates[1].rsa_bits = 1000;
     let bundle = packed(&chain);
-    let mut report = [7; 6];
-    let answer = plain::judge_openssl(&bundle.words, &bundle.bytes, &mut report);
-    assert_eq!((answer, report), ([1, 0, 2, 0, 0, 2, 2, 2], [2, 0, NONE, 6, 1, NONE]));
-    let mut report = [7; 5];
-    let answer = plain::judge_openssl(&bundle.words, &bundle.bytes, &mut report);
-    assert_eq!((answer, report), ([1, 0, 2, 0, 0, 2, 2, 1], [2, 0, NONE, 7, 7]));
-    let answer = plain::judge_openssl(&bundle.words, &bundle.bytes, &mut []);
-    assert_eq!(answer, [1, 0, 2, 0, 0, 2, 2, 0]);
+    for judge in [plain::judge_openssl, udrasmil::raw::openssl] {
+        let mut report = [7; 6];
+        let answer = judge(&bundle.words, &bundle.bytes, &mut report);
+        assert_eq!((answer, report), ([1, 0, 2, 0, 0, 2, 2, 2], [2, 0, NONE, 6, 1, NONE]));
+        let mut report = [7; 5];
+        let answer = judge(&bundle.words, &bundle.bytes, &mut report);
+        assert_eq!((answer, report), ([1, 0, 2, 0, 0, 2, 2, 1], [2, 0, NONE, 7, 7]));
+        let answer = judge(&bundle.words, &bundle.bytes, &mut []);
+        assert_eq!(answer, [1, 0, 2, 0, 0, 2, 2, 0]);
+    }
 }
 
 #[test]
