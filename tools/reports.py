@@ -72,7 +72,7 @@ CASES = [
     (False, False, "write-one"),
     (False, True, "write-one"),
     (False, True, "write-one"),
-    (True, False, "write-each"),
+    (True, False, "write-each-broken"),
     (False, True, "write-neighbours"),
     (True, False, "write-pairs"),
 ]

@@ -20,7 +20,7 @@ use Rattle.sound.specs.declared.Checked.{Checked}
 use Rattle.sound.specs.declared.Checked.the-variants.{Sound, Refused as RefusedBundle}
 use Rattle.faults.specs.Order.{In, Less, Ascending, Due, DueShort, DueBroken}
 use Rattle.faults.specs.Places.{shortEntry}
-use Rattle.faults.specs.Report.{write, fitting, firstOf, mostCount}
+use Rattle.faults.specs.Report.{write, fitting, firstOf}
 use Rattle.faults.specs.declared.Entry.{Entry}
 use Rattle.faults.specs.declared.First.{First}
 use Rattle.faults.specs.declared.First.the-variants.{Clear, Broken as FirstBroken}

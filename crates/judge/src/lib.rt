@@ -1,11 +1,12 @@
 // The judge: the report and the answer.
 ghost use mathlib.Core.Path.{_≡_};
 ghost use Prim.Native.Nat.{_+_, _-_, _<_};
+ghost use Rattle.laws.specs.Lists.{any, rows};
 ghost use Rattle.table.specs.Table.{countOf};
 ghost use Rattle.model.specs.Sections.{certs};
 ghost use Rattle.model.specs.Decode.{chainOf, listsOf};
 ghost use Rattle.sound.specs.declared.Checked.the-variants.{Sound};
-ghost use Rattle.faults.specs.Report.{Wrote};
+ghost use Rattle.faults.specs.Report.{certificate, Wrote};
 ghost use Rattle.faults.specs.Order.{Reported};
 ghost use Rattle.faults.specs.Index.{asked, each, neighbours, row, pairs, entriesAt, index};
 ghost use Rattle.rules.specs.Rules.{brokenIn, placesOf, rules, short};
@@ -89,6 +90,57 @@ fn write_each(
         i += 1;
     }
     tally
+}
+
+// Whether some certificate from one up to, and without, another breaks a rule. Most rules are broken nowhere, and then nothing more is done.
+fn any_breaks(
+    policy: Policy,
+    rule: RuleNo,
+    from: CertPos,
+    to: u32,
+    words: &[u64],
+    bytes: &[u8],
+    pwords: &[u64],
+    pbytes: &[u8],
+) -> bool
+    ensures { λ r. ⌜ r ≡ any (brokenIn policy (now (words .entry)) (now (bytes .entry)) (now (pwords .entry)) (now (pbytes .entry)) (rule .0)) (rows certificate (from .0) to) ⌝ }
+{
+    let mut i = from.0;
+    while i < to {
+        if rules::breaks(
+            policy,
+            rule,
+            Spot::Certificate(CertPos(i)),
+            words,
+            bytes,
+            pwords,
+            pbytes,
+        ) {
+            return true;
+        }
+        i += 1;
+    }
+    false
+}
+
+// The same as `write_each`, but nothing is lent where no certificate breaks the rule.
+fn write_each_broken(
+    policy: Policy,
+    rule: RuleNo,
+    from: CertPos,
+    to: u32,
+    words: &[u64],
+    bytes: &[u8],
+    pwords: &[u64],
+    pbytes: &[u8],
+    report: &mut [u32],
+) -> Tally
+    ensures { λ t. ⌜ Wrote (each (brokenIn policy (now (words .entry)) (now (bytes .entry)) (now (pwords .entry)) (now (pbytes .entry))) (rule .0) (from .0) (to - from .0)) (now (report .entry)) (now (report .exit)) t ⌝ }
+{
+    if any_breaks(policy, rule, from, to, words, bytes, pwords, pbytes) {
+        return write_each(policy, rule, from, to, words, bytes, pwords, pbytes, report);
+    }
+    NONE_YET
 }
 
 // At each pair of neighbours.
@@ -237,7 +289,7 @@ fn write_rule(
         Places::LeafAndRoot => write_one(policy, rule, ends, words, bytes, pwords, pbytes, report),
         Places::Each(from, before) => {
             let to = faults::without(n, before);
-            write_each(policy, rule, from, to, words, bytes, pwords, pbytes, report)
+            write_each_broken(policy, rule, from, to, words, bytes, pwords, pbytes, report)
         }
         Places::Neighbours => {
             write_neighbours(policy, rule, last, words, bytes, pwords, pbytes, report)
