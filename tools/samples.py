@@ -1,9 +1,10 @@
 #!/usr/bin/env python3
 """samples.py [--check]: writes the sample bundles; with --check it only compares.
 
-A sample is a chain bundle with the answer and the report that document 01 gives it. Each has a file in samples/, and all
-four stand one after the other in the file that the program `witnesses` reads. Two more chain bundles are written from
-real certificates in PEM form, and a policy bundle for Chrome's judge."""
+A sample is a chain bundle, a policy bundle for Chrome's judge, and the answers and reports that document 01 gives them.
+Each bundle has a file in samples/, the pairs stand one after the other in the file that the program `witnesses` reads,
+and the answers in the one that its output is held to. Two more chain bundles are written from real certificates in PEM
+form."""
 import pathlib
 import sys
 from typing import NamedTuple
@@ -11,7 +12,7 @@ from typing import NamedTuple
 import bundles
 import packing
 import pem
-from bundles import A, C, DNS, G, R, S, U, Bundle
+from bundles import A, C, DNS, G, L, R, S, U, Bundle
 from packing import packed, ranges
 
 TOP = pathlib.Path(__file__).resolve().parent.parent
@@ -28,7 +29,7 @@ FROM, NOW, UNTIL = 1_600_000_000, 1_610_000_000, 1_630_000_000
 
 
 class Cert(NamedTuple):
-    """What the certificates of the samples differ in. Key id, serial and fingerprint are made from the name."""
+    """What the certificates of the samples differ in. Key id, serial and, if none is given, fingerprint are made from the name."""
 
     name: bytes
     issuer: bytes
@@ -38,6 +39,11 @@ class Cert(NamedTuple):
     excluded: tuple = ()
     until: int = UNTIL
     bits: int = 2048
+    given_print: bytes = b""
+
+    @property
+    def print(self):
+        return self.given_print or b"print of " + self.name
 
 
 class Sections(packing.Sections):
@@ -52,7 +58,7 @@ class Sections(packing.Sections):
         return self.added(G, [(DNS, self.string(name), 0) for name in names])
 
     def add(self, cert):
-        always = {0: self.string(b"print of " + cert.name), 1: VERSION_3, 2: self.string(b"serial of " + cert.name)}
+        always = {0: self.string(cert.print), 1: VERSION_3, 2: self.string(b"serial of " + cert.name)}
         signed = {3: self.string(SIGNATURE), 4: self.string(SIGNATURE), 5: FROM, 6: cert.until}
         names = ranges({7: self.dn(cert.issuer), 9: self.dn(cert.name)})
         key = {11: RSA, 12: cert.bits}
@@ -86,6 +92,7 @@ def chain(host, certs):
 LEAF = Cert(b"Server", b"Middle CA", hosts=(b"a.com", b"*.a.com"))
 MIDDLE = Cert(b"Middle CA", b"Root CA", ca=True, permitted=(b"a.com",), excluded=(b"b.a.com",))
 ROOT = Cert(b"Root CA", b"Root CA", ca=True)
+REVOKED = b"print of an old server"
 
 
 def good():
@@ -93,7 +100,7 @@ def good():
 
 
 def out_of_date_and_weak():
-    leaf = LEAF._replace(issuer=ROOT.name, until=NOW - 1)
+    leaf = LEAF._replace(issuer=ROOT.name, until=NOW - 1, given_print=REVOKED)
     return chain(b"a.com", [leaf, ROOT._replace(bits=1000)])
 
 
@@ -109,23 +116,6 @@ def serial_word():
 def serial_out():
     """The good chain, but the second certificate's serial is a string that isn't there."""
     return bundles.changed(good(), {serial_word(): bundles.count(good(), S)})
-
-
-class Sample(NamedTuple):
-    """A bundle, the eight words of its answer where the whole report has room, and the words of that report."""
-
-    name: str
-    bundle: Bundle
-    answer: list
-    report: list
-
-
-SAMPLES = (
-    Sample("broken", out_of_date_and_weak(), [1, 0, 2, 0, 0, 2, 2, 2], [2, 0, NONE, 6, 1, NONE]),
-    Sample("accepted", good(), [0, 0, 0, 0, 0, 0, 0, 0], []),
-    Sample("short", leaf_alone(), [1, 0, 0, 0, 0, 1, 1, 1], [1, NONE, NONE]),
-    Sample("refused", serial_out(), [5, 0, 1, serial_word(), 0, 0, 0, 0], []),
-)
 
 
 class Real(NamedTuple):
@@ -148,19 +138,118 @@ EXPIRED = Real("expired", b"expired.rootca1.demo.amazontrust.com", FEBRUARY_2025
 
 
 def policy():
-    """Short lists: the root of the real chains is known, and the expired leaf revoked."""
+    """Short lists, for the real chains and for the samples.
+
+    Of the real chains the root is known, and the expired leaf revoked. The root of the samples is on four lists: it is
+    known, so the leaf's duration is asked; it is one of Symantec's, with the middle CA as the exception; and it is bound
+    to the domain of the samples. The leaf of the broken chain is revoked."""
     root, leaf = VALID.certificates()[-1], EXPIRED.certificates()[0]
-    few = {"public_suffix": [b"com", b"*.uk"], "india_domains": [b"*.gov.in"], "anssi_domains": [b"*.fr"]}
-    few |= {"known_roots": [pem.fingerprint(root)], "crl": [pem.fingerprint(leaf)]}
-    return bundles.policy(lists={name: few.get(name, []) for name in bundles.LISTS})
+    lists = {
+        "public_suffix": [b"com", b"*.uk"],
+        "crl": [pem.fingerprint(leaf), REVOKED],
+        "known_roots": [pem.fingerprint(root), ROOT.print],
+        "symantec_roots": [ROOT.print],
+        "symantec_exceptions": [MIDDLE.print],
+        "india_trusted": [],
+        "india_domains": [b"*.gov.in"],
+        "anssi_trusted": [ROOT.print],
+        "anssi_domains": [b"*.fr", b"*.a.com"],
+    }
+    return bundles.policy(lists=lists)
+
+
+def last_entry():
+    """Which entry of the lists is the last one, a domain; it has a string of its own, of the same number."""
+    return bundles.count(policy(), L) - 1
+
+
+def policy_with_high_byte():
+    """The policy, but its last domain begins with a byte over 127."""
+    return bundles.with_high_string(policy(), last_entry())
+
+
+class Judged(NamedTuple):
+    """The answer where the whole report has room, and the words of that report.
+
+    An answer is number, bundle, kind of place, its two values, rule, total, entries written."""
+
+    answer: list
+    report: list
+
+    def lent(self, room):
+        """The answer and the report where so many words are lent, of which the unwritten ones keep their nines."""
+        written = min(len(self.report), room) // 3
+        report = self.report[: 3 * written]
+        return Judged(self.answer[:7] + [written], report + [UNWRITTEN] * (room - len(report)))
+
+
+UNWRITTEN = 9
+ROOMY, TIGHT = 14, 5
+ACCEPTED = Judged([0, 0, 0, 0, 0, 0, 0, 0], [])
+TOO_SHORT = Judged([1, 0, 0, 0, 0, 1, 1, 1], [1, NONE, NONE])
+
+
+def refused(number, bundle, word):
+    return Judged([number, bundle, 1, word, 0, 0, 0, 0], [])
+
+
+class Sample(NamedTuple):
+    """The bundles of a chain and of a policy by the names of their files, and what each judge has to say."""
+
+    chain: str
+    policy: str
+    openssl: Judged
+    chrome: Judged
+
+
+CHAINS = {"broken": out_of_date_and_weak(), "accepted": good(), "short": leaf_alone(), "refused": serial_out()}
+POLICIES = {"policy": policy(), "refused_policy": policy_with_high_byte()}
+SAMPLES = (
+    Sample(
+        "broken",
+        "policy",
+        openssl=Judged([1, 0, 2, 0, 0, 2, 2, 2], [2, 0, NONE, 6, 1, NONE]),
+        # Its leaf is on the CRL, and no CA stands between it and a root of Symantec's.
+        chrome=Judged([1, 0, 2, 0, 0, 2, 4, 4], [2, 0, NONE, 6, 1, NONE, 18, 0, NONE, 20, 1, NONE]),
+    ),
+    Sample("accepted", "policy", openssl=ACCEPTED, chrome=ACCEPTED),
+    Sample("short", "policy", openssl=TOO_SHORT, chrome=TOO_SHORT),
+    Sample("refused", "policy", openssl=refused(5, 0, serial_word()), chrome=refused(5, 0, serial_word())),
+    # OpenSSL's judge takes no policy bundle.
+    Sample(
+        "accepted",
+        "refused_policy",
+        openssl=ACCEPTED,
+        chrome=refused(7, 1, bundles.place(policy(), L, last_entry())),
+    ),
+)
+
+
+def pairs():
+    """The samples as `witnesses` reads them."""
+    return b"".join(packed(CHAINS[sample.chain]) + packed(POLICIES[sample.policy]) for sample in SAMPLES)
+
+
+def shown(judge, judged):
+    """A judgement as `witnesses` writes it."""
+    answer, report = (" ".join(map(str, numbers)) for numbers in judged)
+    return f"{judge} answer {answer}\nreport {report}\n"
+
+
+def output():
+    """What `witnesses` has to write."""
+    for sample in SAMPLES:
+        for room in (ROOMY, TIGHT):
+            yield shown("OpenSSL", sample.openssl.lent(room))
+            yield shown("Chrome", sample.chrome.lent(room))
 
 
 def files():
     """Each path that this script writes, with what it writes there."""
-    each = {f"samples/{sample.name}.bundle": packed(sample.bundle) for sample in SAMPLES}
-    real = {f"samples/{chain.name}.bundle": packed(chain.bundle()) for chain in (VALID, EXPIRED)}
-    rest = {"samples/policy.bundle": packed(policy()), "crates/witnesses/data/samples": b"".join(each.values())}
-    return each | real | rest
+    real = {chain.name: chain.bundle() for chain in (VALID, EXPIRED)}
+    each = {f"samples/{name}.bundle": packed(bundle) for name, bundle in (CHAINS | real | POLICIES).items()}
+    program = {"crates/witnesses/data/samples": pairs(), "crates/witnesses/stdout": "".join(output()).encode()}
+    return each | program
 
 
 def main():

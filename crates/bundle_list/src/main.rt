@@ -1,4 +1,5 @@
 // Replays the bundles of the file `bundles` through the soundness checks, and writes how many got the answer that the file names.
+use data_file::Got;
 use libc::STDOUT_FILENO;
 use sound::Bundle;
 use sound::Checked;
@@ -26,12 +27,6 @@ struct Case {
     due: Answer,
 }
 
-enum Word {
-    Is(u64),
-    End,
-    Cut,
-}
-
 enum Head {
     Is(Case),
     End,
@@ -51,53 +46,6 @@ enum Turn {
 
 // ---- reading the file
 
-fn wide(x: u8) -> u64 {
-    x as u64
-}
-
-// The low byte comes first.
-fn word_of(b: &[u8; 8]) -> u64 {
-    let low = wide(b[0]) | (wide(b[1]) << 8) | (wide(b[2]) << 16) | (wide(b[3]) << 24);
-    let high = wide(b[4]) | (wide(b[5]) << 8) | (wide(b[6]) << 16) | (wide(b[7]) << 24);
-    low | (high << 32)
-}
-
-fn read_word(fd: i32) -> Word {
-    let mut b = [0u8; 8];
-    let got = io::read_full(fd, &mut b);
-    if got == 0 {
-        return Word::End;
-    }
-    if got < 8 {
-        return Word::Cut;
-    }
-    Word::Is(word_of(&b))
-}
-
-// Reads n words. Answers whether there is room for them and the file had them.
-fn read_words(fd: i32, words: &mut [u64], n: usize) -> bool {
-    let mut i = 0;
-    while i < n {
-        if words.len() <= i {
-            return false;
-        }
-        let Word::Is(w) = read_word(fd) else {
-            return false;
-        };
-        words[i] = w;
-        i += 1;
-    }
-    true
-}
-
-// Reads n bytes. Answers whether there is room for them and the file had them.
-fn read_bytes(fd: i32, bytes: &mut [u8], n: usize) -> bool {
-    if bytes.len() < n {
-        return false;
-    }
-    io::read_full(fd, &mut bytes[..n]) == n
-}
-
 // The sum, or the most where that is less. The sum itself could wrap.
 fn sum_to(a: u64, b: u64, most: u64) -> u64 {
     if most < a {
@@ -109,36 +57,30 @@ fn sum_to(a: u64, b: u64, most: u64) -> u64 {
     a + b
 }
 
-fn case_of(bundle: u64, rest: &[u64; 7]) -> Case {
+// The eight numbers before the words of a case.
+fn case_of(head: &[u64; 8]) -> Case {
     let due = Answer {
-        number: rest[4],
-        bundle: bundle,
-        kind: rest[5],
-        word: rest[6],
+        number: head[5],
+        bundle: head[0],
+        kind: head[6],
+        word: head[7],
     };
     Case {
-        words: rest[0] as usize,
-        all_words: sum_to(rest[0], rest[1], MOST_WORDS) as usize,
-        bytes: rest[2] as usize,
-        all_bytes: sum_to(rest[2], rest[3], MOST_BYTES),
+        words: head[1] as usize,
+        all_words: sum_to(head[1], head[2], MOST_WORDS) as usize,
+        bytes: head[3] as usize,
+        all_bytes: sum_to(head[3], head[4], MOST_BYTES),
         due: due,
     }
 }
 
-fn read_rest(fd: i32, bundle: u64) -> Head {
-    let mut rest = [0u64; 7];
-    if !read_words(fd, &mut rest, 7) {
-        return Head::Cut;
-    }
-    Head::Is(case_of(bundle, &rest))
-}
-
 fn read_head(fd: i32) -> Head {
-    let first = read_word(fd);
-    match first {
-        Word::Is(bundle) => read_rest(fd, bundle),
-        Word::End => Head::End,
-        Word::Cut => Head::Cut,
+    let mut head = [0u64; 8];
+    let got = data_file::read_words(fd, &mut head, 8);
+    match got {
+        Got::All => Head::Is(case_of(&head)),
+        Got::Nothing => Head::End,
+        Got::Less => Head::Cut,
     }
 }
 
@@ -190,10 +132,6 @@ fn answer_of(bundle: u64, c: Checked) -> Answer {
         },
         Checked::Refused(n, b, p) => placed(n, bundle_number(b), p),
     }
-}
-
-fn words_to(words: &[u64], n: usize) -> &[u64] {
-    if n < words.len() { &words[..n] } else { words }
 }
 
 fn check(bundle: u64, words: &[u64], bytes: &[u8]) -> Answer {
@@ -332,13 +270,13 @@ fn compare(
 fn read_and_check(fd: i32, case: Case) -> Reply {
     let mut words = [0u64; 8193];
     let mut bytes = [0u8; 65537];
-    if !read_words(fd, &mut words, case.words) {
+    let Got::All = data_file::read_words(fd, &mut words, case.words) else {
         return Reply::Cut;
-    }
-    if !read_bytes(fd, &mut bytes, case.bytes) {
+    };
+    let Got::All = data_file::read_bytes(fd, &mut bytes, case.bytes) else {
         return Reply::Cut;
-    }
-    let all_words = words_to(&words, case.all_words);
+    };
+    let all_words = data_file::words_to(&words, case.all_words);
     let all_bytes = table::cut(&bytes, 0, case.all_bytes);
     Reply::Is(check(case.due.bundle, all_words, all_bytes))
 }

@@ -1,11 +1,20 @@
-// Judges the bundles of the file `samples` through the C boundary's function, and writes the answer and the report of each.
+// Judges the chains of the file `samples` through the C boundary's functions, and writes each answer and report.
+//
+// The file is a row of pairs: the bundle of a chain, and the bundle of the policy by which Chrome's judge takes it. A bundle is the count of its words, the count of its bytes, the words, the bytes.
+use data_file::Got;
 use libc::STDOUT_FILENO;
 
 // What stands in the lent report before a judgement, so that the output shows which words were written.
 const UNWRITTEN: u32 = 9;
 
-enum Word {
-    Is(u64),
+// How long a bundle is.
+struct Size {
+    words: usize,
+    bytes: usize,
+}
+
+enum Bundle {
+    Is(Size),
     End,
 }
 
@@ -16,51 +25,23 @@ enum Turn {
 
 // ---- reading the file
 
-fn wide(x: u8) -> u64 {
-    x as u64
-}
-
-// The low byte comes first.
-fn word_of(b: &[u8; 8]) -> u64 {
-    let low = wide(b[0]) | (wide(b[1]) << 8) | (wide(b[2]) << 16) | (wide(b[3]) << 24);
-    let high = wide(b[4]) | (wide(b[5]) << 8) | (wide(b[6]) << 16) | (wide(b[7]) << 24);
-    low | (high << 32)
-}
-
-fn read_word(fd: i32) -> Word {
-    let mut b = [0u8; 8];
-    if io::read_full(fd, &mut b) < 8 {
-        return Word::End;
-    }
-    Word::Is(word_of(&b))
-}
-
-// Reads n words. Answers whether there is room for them and the file had them.
-fn read_words(fd: i32, words: &mut [u64], n: usize) -> bool {
-    let mut i = 0;
-    while i < n {
-        if words.len() <= i {
-            return false;
-        }
-        let Word::Is(w) = read_word(fd) else {
-            return false;
-        };
-        words[i] = w;
-        i += 1;
-    }
-    true
-}
-
-// Reads n bytes. Answers whether there is room for them and the file had them.
-fn read_bytes(fd: i32, bytes: &mut [u8], n: usize) -> bool {
-    if bytes.len() < n {
-        return false;
-    }
-    io::read_full(fd, &mut bytes[..n]) == n
-}
-
-fn words_to(words: &[u64], n: usize) -> &[u64] {
-    if n < words.len() { &words[..n] } else { words }
+// Reads a bundle to the start of the words and bytes lent.
+fn read_bundle(fd: i32, words: &mut [u64], bytes: &mut [u8]) -> Bundle {
+    let mut counts = [0u64; 2];
+    let Got::All = data_file::read_words(fd, &mut counts, 2) else {
+        return Bundle::End;
+    };
+    let size = Size {
+        words: counts[0] as usize,
+        bytes: counts[1] as usize,
+    };
+    let Got::All = data_file::read_words(fd, words, size.words) else {
+        return Bundle::End;
+    };
+    let Got::All = data_file::read_bytes(fd, bytes, size.bytes) else {
+        return Bundle::End;
+    };
+    Bundle::Is(size)
 }
 
 // ---- writing
@@ -79,7 +60,7 @@ fn print_entry_word(n: u32) {
 }
 
 fn print_answer(answer: &[u64; 8]) {
-    print(b"answer");
+    print(b" answer");
     let mut i = 0;
     while i < 8 {
         print_number(answer[i]);
@@ -100,43 +81,52 @@ fn print_report(report: &[u32]) {
 
 // ---- the judgements
 
-fn judge(words: &[u64], bytes: &[u8], report: &mut [u32]) {
+fn by_openssl(words: &[u64], bytes: &[u8], report: &mut [u32]) {
     let mut answer = [0u64; 8];
     udrasmil::udrasmil_judge_openssl(words, bytes, report, &mut answer);
+    print(b"OpenSSL");
     print_answer(&answer);
     print_report(report);
 }
 
-// With room for two entries and more, and then with room for one and two words.
-fn judge_twice(words: &[u64], bytes: &[u8]) {
-    let mut roomy = [UNWRITTEN; 8];
-    judge(words, bytes, &mut roomy);
-    let mut tight = [UNWRITTEN; 5];
-    judge(words, bytes, &mut tight);
+fn by_chrome(words: &[u64], bytes: &[u8], pwords: &[u64], pbytes: &[u8], report: &mut [u32]) {
+    let mut answer = [0u64; 8];
+    udrasmil::udrasmil_judge_chrome(words, bytes, pwords, pbytes, report, &mut answer);
+    print(b"Chrome");
+    print_answer(&answer);
+    print_report(report);
 }
 
-fn read_and_judge(fd: i32, nwords: u64, nbytes: u64) -> Turn {
-    let mut words = [0u64; 8192];
-    let mut bytes = [0u8; 65536];
-    if !read_words(fd, &mut words, nwords as usize) {
-        return Turn::End;
-    }
-    if !read_bytes(fd, &mut bytes, nbytes as usize) {
-        return Turn::End;
-    }
-    judge_twice(
-        words_to(&words, nwords as usize),
-        table::cut(&bytes, 0, nbytes),
-    );
-    Turn::Judged
+// With room for four entries and two words, and then with room for one and two words.
+fn judge(words: &[u64], bytes: &[u8], pwords: &[u64], pbytes: &[u8]) {
+    let mut report = [UNWRITTEN; 14];
+    by_openssl(words, bytes, &mut report);
+    report = [UNWRITTEN; 14];
+    by_chrome(words, bytes, pwords, pbytes, &mut report);
+    let mut tight = [UNWRITTEN; 5];
+    by_openssl(words, bytes, &mut tight);
+    tight = [UNWRITTEN; 5];
+    by_chrome(words, bytes, pwords, pbytes, &mut tight);
 }
 
 fn judge_next(fd: i32) -> Turn {
-    let mut counts = [0u64; 2];
-    if !read_words(fd, &mut counts, 2) {
+    let mut words = [0u64; 8192];
+    let mut bytes = [0u8; 65536];
+    let Bundle::Is(chain) = read_bundle(fd, &mut words, &mut bytes) else {
         return Turn::End;
-    }
-    read_and_judge(fd, counts[0], counts[1])
+    };
+    let mut pwords = [0u64; 8192];
+    let mut pbytes = [0u8; 65536];
+    let Bundle::Is(policy) = read_bundle(fd, &mut pwords, &mut pbytes) else {
+        return Turn::End;
+    };
+    judge(
+        data_file::words_to(&words, chain.words),
+        table::cut(&bytes, 0, chain.bytes as u64),
+        data_file::words_to(&pwords, policy.words),
+        table::cut(&pbytes, 0, policy.bytes as u64),
+    );
+    Turn::Judged
 }
 
 // A proved loop has to end, and nothing says that a file does: it counts up to a number that no run reaches.

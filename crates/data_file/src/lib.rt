@@ -1,0 +1,100 @@
+// Reads of a data file: words of eight bytes each, and bytes. No contract can say what a file holds: these say what a read may change, and what it answers without one.
+ghost use Prim.Native.Nat.{_+_, _*_, _<_};
+ghost use mathlib.Core.Path.{_≡_};
+ghost use lib.ListN.{take};
+ghost use Rattle.data_file.specs.DataFile.{wordOf, Filled};
+
+// What a read got: all that was asked for; nothing, since the file had ended; or less, since it ended on the way or there was no room.
+pub enum Got {
+    All,
+    Nothing,
+    Less,
+}
+
+// The next word of a file, or how the file ended.
+enum Next {
+    Is(u64),
+    End,
+    Cut,
+}
+
+// A byte as a number to compute with.
+fn wide(x: u8) -> u64
+    ensures { λ r. ⌜ r ≡ x ⌝ }
+{
+    x as u64
+}
+
+// Four bytes as a number, the low byte first.
+fn four(a: u8, b: u8, c: u8, d: u8) -> u64
+    ensures { λ r. ⌜ r ≡ a + 256 * (b + 256 * (c + 256 * d)) ⌝ }
+    ensures { λ r. ⌜ r < 4294967296 ⌝ }
+{
+    wide(a) + 256 * (wide(b) + 256 * (wide(c) + 256 * wide(d)))
+}
+
+// Eight bytes as a number, the low byte first.
+pub fn word_of(b: [u8; 8]) -> u64
+    ensures { λ r. ⌜ r ≡ wordOf b ⌝ }
+{
+    four(b[0], b[1], b[2], b[3]) + 4294967296 * four(b[4], b[5], b[6], b[7])
+}
+
+// Reads one word.
+fn next_word(fd: i32) -> Next {
+    let mut b = [0u8; 8];
+    let got = io::read_full(fd, &mut b);
+    if got == 0 {
+        return Next::End;
+    }
+    if got < 8 {
+        return Next::Cut;
+    }
+    Next::Is(word_of(b))
+}
+
+// What was got of a file that ended before word i.
+fn ended(i: usize) -> Got {
+    if i == 0 { Got::Nothing } else { Got::Less }
+}
+
+// Reads n words to the start of those lent.
+pub fn read_words(fd: i32, words: &mut [u64], n: usize) -> Got
+    ensures { λ r. ⌜ Filled n (now (words .entry)) (now (words .exit)) r ⌝ }
+{
+    if words.len() < n {
+        return Got::Less;
+    }
+    let mut i = 0;
+    while i < n {
+        let next = next_word(fd);
+        match next {
+            Next::Is(w) => words[i] = w,
+            Next::End => return ended(i),
+            Next::Cut => return Got::Less,
+        }
+        i += 1;
+    }
+    Got::All
+}
+
+// Reads n bytes to the start of those lent.
+pub fn read_bytes(fd: i32, bytes: &mut [u8], n: usize) -> Got
+    ensures { λ r. ⌜ Filled n (now (bytes .entry)) (now (bytes .exit)) r ⌝ }
+{
+    if bytes.len() < n {
+        return Got::Less;
+    }
+    let got = io::read_full(fd, &mut bytes[..n]);
+    if got == n {
+        return Got::All;
+    }
+    ended(got)
+}
+
+// The first n words, or all where there are fewer.
+pub fn words_to(words: &[u64], n: usize) -> &[u64]
+    ensures { λ r. ⌜ now r ≡ take n (now (words .entry)) ⌝ }
+{
+    if n < words.len() { &words[..n] } else { words }
+}
