@@ -35,6 +35,9 @@ NUMBERS = {
     "row_tests::number_high": {"p": "the place of a word"},
     "row_tests::is_wrong": {"q": "the place of a row's first word", "j": "the place of a word in a row"},
     "search::with_section": {"header": "a count of words"},
+    "data_file::read_words": {"n": "a count of words"},
+    "data_file::read_bytes": {"n": "a count of bytes"},
+    "data_file::words_to": {"n": "a count of words"},
     "faults::without": {"n": "a count of certificates", "k": "a count of certificates"},
 }
 INTEGER = re.compile(r"^(u8|u16|u32|u64|usize|i64)$")
