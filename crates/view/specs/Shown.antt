@@ -3,15 +3,21 @@ use Prim.Native.Nat.{ℕ, _+_}
 use mathlib.Core.List.{List}
 use mathlib.Core.Bool.{Bool}
 use lib.Dec.{eqb, ltb}
+use denote.Ref.{RefT}
 use Rattle.laws.specs.Lists.{pick, any}
 use Rattle.table.specs.Table.{fieldOf, over}
 use Rattle.table.specs.declared.Section.{Section}
 use Rattle.table.specs.declared.Range.{Range}
 use Rattle.view.specs.declared.Rows.{Rows}
+use Rattle.view.specs.declared.View.{View}
 
 -- the rows of a range of a section
 abbrev pub rowsOf : Section → Range → Rows
 rowsOf s r = record { section = s; range = r }
+
+-- the view of some rows of the lent words
+abbrev pub viewOf : RefT (List ℕ) → Rows → View
+viewOf w r = record { words = w; rows = r }
 
 -- word j of each row that is still to be read, in order: what a view shows
 abbrev pub columnOf : List ℕ → Rows → ℕ → List ℕ

@@ -1,6 +1,6 @@
 // The table view: the lent words of a bundle together with the rows that are still to be read. A function over a view only takes it apart and leaves the work to one with plain parameters.
 ghost use mathlib.Core.Path.{_≡_};
-ghost use Rattle.view.specs.Shown.{rowsOf, headOf, restOf, someWord};
+ghost use Rattle.view.specs.Shown.{rowsOf, viewOf, headOf, restOf, someWord};
 use table::Range;
 use table::Section;
 
@@ -45,7 +45,7 @@ fn rest(r: Rows) -> Rows
 
 // A view of the rows of a range, at the first of them.
 pub fn over<'a>(words: &'a [u64], s: Section, r: Range) -> View<'a>
-    ensures { λ v. ⌜ (v .words ≡ words .entry) × (v .rows ≡ rowsOf s r) ⌝ }
+    ensures { λ v. ⌜ v ≡ viewOf (words .entry) (rowsOf s r) ⌝ }
 {
     View {
         words,
@@ -65,7 +65,7 @@ pub fn word<'a>(v: View<'a>, j: u64) -> u64
 
 // The view at the next row.
 pub fn next<'a>(v: View<'a>) -> View<'a>
-    ensures { λ q. ⌜ (q .words ≡ v .entry .words) × (q .rows ≡ restOf (v .entry .rows)) ⌝ }
+    ensures { λ q. ⌜ q ≡ viewOf (v .entry .words) (restOf (v .entry .rows)) ⌝ }
 {
     View {
         words: v.words,

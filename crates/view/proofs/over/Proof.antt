@@ -84,7 +84,7 @@ module _ {M : Type 1} (𝓤 : URA M) (H : Heap 𝓤) (A : Atoms 𝓤) (W : Given
   exits : ent 𝓤 (onEntry 𝓤 H A over.signature (κ, tt) (q, tt) (w, (s, (r, tt))) at) (Post (T′.lowered made))
   exits =
       qed W ((‵ (flft κ q) ⊛ ‵ ftrue) ∷ ‵ (owns (ShrSlice (named 0) κ u64 ∷ S.the-row ∷ R.the-row ∷ []) (w, (s, (r, tt))) at) ∷ []) ∵
-      suffices ! _ (ends-at 𝓤 H A over.ended stayed (over.clauses 𝓤 H A mem run) W (((κ, tt), (q, tt), tt, (w, (s, (r, tt))), at), tt) (T′.lowered made) made (tt, (tt, (tt, tt))) (tt, (tt, (tt, tt)))) $ says ! (refl, refl) $
+      suffices ! _ (ends-at 𝓤 H A over.ended stayed (over.clauses 𝓤 H A mem run) W (((κ, tt), (q, tt), tt, (w, (s, (r, tt))), at), tt) (T′.lowered made) made (tt, (tt, (tt, tt))) (tt, (tt, (tt, tt)))) $ says ! refl $
       frame ! $ fsplit ! $ use1 W (‵ Own ⊛ ‵ Own) (shr-slice-copy 𝓤 H A W (named 0) κ u64 .twice w (v ∷ [])) $ split ! $ move ! (0 ∷ 2 ∷ []) $ fjoin ! $ frame ! $
       -- [what the words own]: what the fields own together, of it and of the rows' facts, is what the view owns
       nothing ! $ owned ! P.the-row (Is P.the-row) (LL.makes P.the-type P′.the-plain 𝓤 H A) rows _ is-rows $ fjoin ! $ move ! (1 ∷ 0 ∷ []) $ fjoin ! $ by ! (own-shut 𝓤 H A W (T.the-type α) (T′.the-laws α) (w, (rows, tt)))

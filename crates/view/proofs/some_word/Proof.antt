@@ -60,7 +60,7 @@ use Rattle.table.proofs.Section as S
 use Rattle.table.proofs.Section.Laws as S′
 use Rattle.table.proofs.Range as R
 use Rattle.table.proofs.Range.Laws as R′
-use Rattle.view.specs.Shown.{headOf, restOf, someWord}
+use Rattle.view.specs.Shown.{viewOf, headOf, restOf, someWord}
 use Rattle.view.specs.declared.Rows.{Rows}
 use Rattle.view.specs.declared.View.{View}
 use Rattle.view.proofs.Rows as P
@@ -162,7 +162,7 @@ module _ {M : Type 1} (𝓤 : URA M) (H : Heap 𝓤) (A : Atoms 𝓤) (W : Given
   rowsAt i = record { section = s; range = record { from = i; to = r .to } }
 
   abbrev viewAt : ℕ → View
-  viewAt i = record { words = w; rows = rowsAt i }
+  viewAt i = viewOf w (rowsAt i)
 
   abbrev passes : ℕ → Bool
   passes y = eqb y x
@@ -182,9 +182,9 @@ module _ {M : Type 1} (𝓤 : URA M) (H : Heap 𝓤) (A : Atoms 𝓤) (W : Given
   typed-at : (i : ℕ) → i < 2 ^ 64 → Holds (hasTy (T′.mir erased) (T′.lowered (viewAt i))) × WT (T′.lowered (viewAt i))
   typed-at i fits = LL.lawful (T.the-type αᵉ) (T′.the-laws αᵉ) 𝓤 H A W .typed (viewAt i) _ (LL.owes (T.the-type αᵉ) (T′.the-laws αᵉ) (viewAt i) (is-w, (is-rows i fits, tt))) .0
 
-  -- a view whose fields are known, and its machine value
-  lowered-is : (i : ℕ) (d : View) (u : Val) → Is (B (κ, tt)) d (u ∷ []) → (d .words ≡ w) × (d .rows ≡ rowsAt i) → u ≡ T′.lowered (viewAt i)
-  lowered-is i d u is e = ap only (LL.tells (T.the-type α) (T′.the-laws α) d _ is) ∙ ap T′.lowered (λ k. record { words = e .0 k; rows = e .1 k })
+  -- the machine value of a view that is known
+  lowered-is : (i : ℕ) (d : View) (u : Val) → Is (B (κ, tt)) d (u ∷ []) → d ≡ viewAt i → u ≡ T′.lowered (viewAt i)
+  lowered-is i d u is e = ap only (LL.tells (T.the-type α) (T′.the-laws α) d _ is) ∙ ap T′.lowered e
 
   -- what the words own is what a view of them owns, and is kept
   lent : (i : ℕ) → i < 2 ^ 64 → ent 𝓤 (sem 𝓤 H A Own) (sep 𝓤 (sem 𝓤 H A (B (κ, tt) .own (viewAt i) (T′.lowered (viewAt i) ∷ []))) (sem 𝓤 H A Own))
@@ -205,8 +205,8 @@ module _ {M : Type 1} (𝓤 : URA M) (H : Heap 𝓤) (A : Atoms 𝓤) (W : Given
       -- [what the callee's parameters own; what the words own; the token]
       move ! (2 ∷ 0 ∷ []) $ use2 W (raw (Over 𝓤 H A mem run .pre to-over)) (qed W (Token ∷ ‵ (owns (ShrSlice (named 0) κ u64 ∷ S.the-row ∷ R.the-row ∷ []) (w, (s, (r, tt))) (v ∷ [], (S′.lowered s ∷ [], (R′.lowered r ∷ [], tt)))) ∷ []) ∵ join ! $ frame ! $ done !) $ frame ! $ done !
 
-  over-said : (d : View) → ent 𝓤 (ensured 𝓤 H A over.ended (over.clauses 𝓤 H A mem run) (κ, tt) (w, (s, (r, tt))) tt d) (fact 𝓤 ((d .words ≡ w) × (d .rows ≡ rowsAt (r .from))))
-  over-said d = exE 𝓤 _ (λ ws. snd∗ 𝓤 (sem 𝓤 H A (lasts over.ended (κ, tt) (w, (s, (r, tt))) ws)) (fact 𝓤 ((d .words ≡ w) × (d .rows ≡ rowsAt (r .from)))))
+  over-said : (d : View) → ent 𝓤 (ensured 𝓤 H A over.ended (over.clauses 𝓤 H A mem run) (κ, tt) (w, (s, (r, tt))) tt d) (fact 𝓤 (d ≡ viewAt (r .from)))
+  over-said d = exE 𝓤 _ (λ ws. snd∗ 𝓤 (sem 𝓤 H A (lasts over.ended (κ, tt) (w, (s, (r, tt))) ws)) (fact 𝓤 (d ≡ viewAt (r .from))))
 
   -- ---- the calls of `word` and of `next` at row i
   module _ (i : ℕ) (fits : i < 2 ^ 64) where
@@ -231,8 +231,8 @@ module _ {M : Type 1} (𝓤 : URA M) (H : Heap 𝓤) (A : Atoms 𝓤) (W : Given
         nothing ! $ move ! (1 ∷ 0 ∷ []) $ fjoin ! $
         move ! (2 ∷ 0 ∷ []) $ use2 W (raw (Next 𝓤 H A mem run .pre to-next)) (qed W (Token ∷ ‵ (owns (B (κ, tt) ∷ []) (viewAt i, tt) (T′.lowered (viewAt i) ∷ [], tt)) ∷ []) ∵ join ! $ frame ! $ done !) $ frame ! $ done !
 
-    next-said : (d : View) → ent 𝓤 (ensured 𝓤 H A next.ended (next.clauses 𝓤 H A mem run) (κ, tt) (viewAt i, tt) tt d) (fact 𝓤 ((d .words ≡ w) × (d .rows ≡ restOf (rowsAt i))))
-    next-said d = exE 𝓤 _ (λ ws. snd∗ 𝓤 (sem 𝓤 H A (lasts next.ended (κ, tt) (viewAt i, tt) ws)) (fact 𝓤 ((d .words ≡ w) × (d .rows ≡ restOf (rowsAt i)))))
+    next-said : (d : View) → ent 𝓤 (ensured 𝓤 H A next.ended (next.clauses 𝓤 H A mem run) (κ, tt) (viewAt i, tt) tt d) (fact 𝓤 (d ≡ viewOf w (restOf (rowsAt i))))
+    next-said d = exE 𝓤 _ (λ ws. snd∗ 𝓤 (sem 𝓤 H A (lasts next.ended (κ, tt) (viewAt i, tt) ws)) (fact 𝓤 (d ≡ viewOf w (restOf (rowsAt i)))))
 
     -- a row is left, so the rest begins at the next
     stepped : i < r .to → restOf (rowsAt i) ≡ rowsAt (i + 1)
@@ -342,10 +342,10 @@ module _ {M : Type 1} (𝓤 : URA M) (H : Heap 𝓤) (A : Atoms 𝓤) (W : Given
           use2 W (raw (Next 𝓤 H A mem run .pre (to-next (i .0) (i .1))) ⊛ ‵ Own) (goes-next (i .0) (i .1)) $ split ! $
           calls-at-last ! fm (Next 𝓤 H A mem run) known-next (to-next (i .0) (i .1)) (and-then ! (load ! (from ! (stop !)) (look ! 2 refl)) (no-more !)) (λ u′.
           use1 W (later (some (λ (d : View). (Token ⊛ ‵ (B (κ, tt) .own d (u′ ∷ []))) ⊛ raw (ensured 𝓤 H A next.ended (next.clauses 𝓤 H A mem run) (κ, tt) (viewAt (i .0), tt) tt d)))) (id⊢ 𝓤 _) $ await ! tt $ pick ! (λ d.
-          split ! $ move ! (1 ∷ []) $ use1 W (raw (fact 𝓤 ((d .words ≡ w) × (d .rows ≡ restOf (rowsAt (i .0)))))) (next-said (i .0) (i .1) d) $ heard ! ((d .words ≡ w) × (d .rows ≡ restOf (rowsAt (i .0)))) (λ e′. split ! $ move ! (1 ∷ []) $
+          split ! $ move ! (1 ∷ []) $ use1 W (raw (fact 𝓤 (d ≡ viewOf w (restOf (rowsAt (i .0)))))) (next-said (i .0) (i .1) d) $ heard ! (d ≡ viewOf w (restOf (rowsAt (i .0)))) (λ e′. split ! $ move ! (1 ∷ []) $
           facts ! (B (κ, tt)) (Is (B (κ, tt))) (shows 𝓤 H A (B (κ, tt))) d (u′ ∷ []) (λ is′.
           land-last ! (from ! (stop !)) (store ! 14 refl (LL.lawful (T.the-type αᵉ) (T′.the-laws αᵉ) 𝓤 H A W .typed d _ is′ .0)) $
-          rewrite ! 14 (λ (z : Val). ‵ (fat fullShare viewed l₆ 0 z)) (lowered-is (i .0 + 1) d u′ is′ (e′ .0, e′ .1 ∙ stepped (i .0) (i .1) l)) refl $
+          rewrite ! 14 (λ (z : Val). ‵ (fat fullShare viewed l₆ 0 z)) (lowered-is (i .0 + 1) d u′ is′ (e′ ∙ ap (viewOf w) (stepped (i .0) (i .1) l))) refl $
           forget ! 2 refl $ forget ! 4 refl $ forget ! 6 refl $ forget ! 8 refl $ forget ! 10 refl $ forget ! 12 refl $
           again ! Nearer At i (i .0 + 1, after l, any-next passes field (i .0) (r .to) l (read (i .0) (i .1) y e) (fails (passes y) miss) (i .2)) (nearer l))))))))))
         where
@@ -368,7 +368,7 @@ module _ {M : Type 1} (𝓤 : URA M) (H : Heap 𝓤) (A : Atoms 𝓤) (W : Given
           move ! (26 ∷ []) $ use1 W (raw (Over 𝓤 H A mem run .pre to-over) ⊛ ‵ Own) goes-over $ split ! $
           calls-at ! fm (Over 𝓤 H A mem run) known-over to-over (and-then ! (load ! (from ! (stop !)) (look ! 24 refl)) (and-then ! (load ! (from ! (stop !)) (look ! 22 refl)) (and-then ! (load ! (from ! (stop !)) (look ! 20 refl)) (no-more !)))) (λ u.
           use1 W (later (some (λ (d : View). (Token ⊛ ‵ (B (κ, tt) .own d (u ∷ []))) ⊛ raw (ensured 𝓤 H A over.ended (over.clauses 𝓤 H A mem run) (κ, tt) (w, (s, (r, tt))) tt d)))) (id⊢ 𝓤 _) $ await ! tt $ pick ! (λ d.
-          split ! $ move ! (1 ∷ []) $ use1 W (raw (fact 𝓤 ((d .words ≡ w) × (d .rows ≡ rowsAt (r .from))))) (over-said d) $ heard ! ((d .words ≡ w) × (d .rows ≡ rowsAt (r .from))) (λ e. split ! $ move ! (1 ∷ []) $
+          split ! $ move ! (1 ∷ []) $ use1 W (raw (fact 𝓤 (d ≡ viewAt (r .from)))) (over-said d) $ heard ! (d ≡ viewAt (r .from)) (λ e. split ! $ move ! (1 ∷ []) $
           facts ! (B (κ, tt)) (Is (B (κ, tt))) (shows 𝓤 H A (B (κ, tt))) d (u ∷ []) (λ is.
           land ! (from ! (stop !)) (init ! 14 refl (LL.lawful (T.the-type αᵉ) (T′.the-laws αᵉ) 𝓤 H A W .typed d _ is .0)) $
           rewrite ! 14 (λ (z : Val). ‵ (fat fullShare viewed l₆ 0 z)) (lowered-is (r .from) d u is e) refl $ looped))))
