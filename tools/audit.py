@@ -29,6 +29,8 @@ NUMBERS = {
     "model::chain::signed": {"word": "a word of a bundle"},
     "fields::key_level::check_cert_key_level": {"least": "a count of bits"},
     "roots::calendar::Calendar::span_valid": {"begin": "a date", "end": "a date"},
+    "view::word": {"j": "the place of a word in a row"},
+    "view::some_word": {"j": "the place of a word in a row", "x": "a word of a bundle"},
     "row_tests::no_string": {"p": "the place of a word"},
     "row_tests::no_range": {"p": "the place of a word"},
     "row_tests::string_out": {"p": "the place of a word"},

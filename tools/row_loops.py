@@ -90,18 +90,6 @@ ROWS = [
         "uses": ["Rattle.model.specs.Decode.{usageAt}", "Rattle.parts.specs.Purpose.{serves}"],
     },
     {
-        "crate": "sans",
-        "function": "has_kind",
-        "kind": "any",
-        "parameters": "words bytes k e",
-        "test": "is_kind",
-        "definition": "isKind k",
-        "read": "generalAt words bytes",
-        "answer": "any (isKind k) (generalsIn words bytes {range})",
-        "opens": "generalsIn",
-        "uses": ["Rattle.model.specs.Decode.{generalAt, generalsIn}", "Rattle.sans.specs.Sans.{isKind}"],
-    },
-    {
         "crate": "covering",
         "function": "any_directory",
         "kind": "any",

@@ -9,6 +9,9 @@ use model::chain::NAMES;
 use model::chain::NameNo;
 use table::Range;
 
+// The word of a name that holds its kind.
+const KIND: u64 = 0;
+
 // The kinds of names that constraints can speak of.
 pub enum Kind {
     Dns,
@@ -33,19 +36,11 @@ pub fn is_kind(words: &[u64], bytes: &[u8], n: NameNo, k: Kind) -> bool
     model::chain::kind(words, n) == number(k)
 }
 
-// Whether some name of a range is of a kind.
+// Whether some name of a range is of a kind. The rows are read through a view.
 pub fn has_kind(words: &[u64], bytes: &[u8], r: Range, k: Kind) -> bool
     ensures { λ t. ⌜ t ≡ any (isKind k) (generalsIn (now (words .entry)) (now (bytes .entry)) r) ⌝ }
 {
-    let e = r.to;
-    let mut i = r.from;
-    while i < e {
-        if is_kind(words, bytes, NameNo(i), k) {
-            return true;
-        }
-        i += 1;
-    }
-    false
+    view::some_word(words, NAMES, r, KIND, number(k))
 }
 
 // Whether the SAN of a certificate has a DNS name.

@@ -1,52 +1,20 @@
--- Written by tools/row_loops.py. Assumes nothing.
-use Prim.Native.Nat.{_-_}
-use mathlib.Core.Path.{_≡_, refl}
+use mathlib.Core.Path.{refl}
 use borrow.Author.Needs.{needs}
-use Rattle.laws.specs.Lists.{rows, any}
-use Rattle.model.specs.Decode.{generalAt, generalsIn}
-use Rattle.sans.specs.Sans.{isKind}
-use Rattle.laws.proofs.Loops.{any-here, any-next, any-none}
+use Rattle.model.specs.Decode.{kindAt, generalsIn}
+use Rattle.view.proofs.Laws.{some-row}
+use Rattle.sans.proofs.Laws.{kind-is}
 use Rattle.sans.proofs.has_kind.Statement.{statement}
 use Rattle.sans.proofs.has_kind.Tie as tie
 
-abbrev Inv-loop : tie.InvT-loop
-Inv-loop words bytes k e i₀ i = any (isKind k) (generalsIn words bytes (record { from = i₀; to = e })) ≡ any (isKind k) (rows (generalAt words bytes) i e)
+number-requires : tie.Need-number-requires
+number-requires c κs = search needs
 
-abbrev μ-loop : tie.MeasureT-loop
-μ-loop words bytes k e i₀ i = e - i
+some-word-requires : tie.Need-some-word-requires
+some-word-requires c κs = search needs
 
-loop-holds : tie.Need-loop-holds Inv-loop μ-loop
-unfolding generalsIn
-loop-holds c = refl
-
-is-kind-requires : tie.Need-is-kind-requires Inv-loop μ-loop
-is-kind-requires c κs = search needs
-
-returns : tie.Need-returns Inv-loop μ-loop
-returns c = any-here _ _ _ _ (c .before .before .loop-test .taken) (c .before .is-kind .ensures) (c .if1 .taken) (c .before .before .before .loop .inv)
-
-add-i : tie.Need-add-i Inv-loop μ-loop
-add-i c = search needs
-
-loop-less : tie.Need-loop-less Inv-loop μ-loop
-loop-less c = search needs
-
-loop-again : tie.Need-loop-again Inv-loop μ-loop
-loop-again c = any-next _ _ _ _ (c .before .before .loop-test .taken) (c .before .is-kind .ensures) (c .if1 .left) (c .before .before .before .loop .inv)
-
-returns-2 : tie.Need-returns-2 Inv-loop μ-loop
-returns-2 c = any-none _ _ _ _ (c .loop-test .left) (c .before .loop .inv)
+returns : tie.Need-returns
+unfolding kindAt generalsIn
+returns c = some-row _ _ _ _ _ _ _ (c .some-word .ensures) (λ n. kind-is _ _ _ _ refl (c .before .number .ensures))
 
 pub has-kind-spec : {M : Type 1} → statement M
-has-kind-spec =
-    tie.close
-    (tie.spec
-    Inv-loop
-    μ-loop
-    loop-holds
-    is-kind-requires
-    returns
-    add-i
-    loop-less
-    loop-again
-    returns-2)
+has-kind-spec = tie.close (tie.spec number-requires some-word-requires returns)
