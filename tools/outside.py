@@ -15,7 +15,7 @@ from typing import NamedTuple
 import bundles
 import samples
 from bundles import Bundle
-from samples import NONE, TOP, Sample
+from samples import NONE, TOP
 
 CHAINS = TOP / "tests/outside"
 LIBRARY = TOP / "target/native/libudrasmil.a"
@@ -84,6 +84,15 @@ def judged(function, bundle, room):
     return Outcome(answer[GUARDS : GUARDS + 8], report[GUARDS : GUARDS + room], guards_stay)
 
 
+class Sample(NamedTuple):
+    """A bundle, the eight words of OpenSSL's answer where the whole report has room, and the words of that report."""
+
+    name: str
+    bundle: Bundle
+    answer: list
+    report: list
+
+
 def due(sample, room):
     """The outcome as it must be: whole entries only, as many as fit."""
     written = min(len(sample.report) // 3, room // 3)
@@ -138,7 +147,8 @@ def chains():
 
 def edges():
     """The samples, a chain without certificates and without bytes, and no words at all."""
-    yield from samples.SAMPLES
+    for sample in samples.SAMPLES:
+        yield Sample(sample.chain, samples.CHAINS[sample.chain], *sample.openssl)
     yield Sample("no certificates", bundles.empty_chain(), [1, 0, 0, 0, 0, 1, 1, 1], [1, NONE, NONE])
     yield Sample("no words", Bundle([], b""), [2, 0, 1, 0, 0, 0, 0, 0], [])
 
