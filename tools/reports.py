@@ -48,7 +48,7 @@ TABLES = {
 # The crate that writes the report. first: the parameters before all others. lent: the slices that the rules read. test, places: the definitions of the two tables.
 # specs: where these stand.
 WRITERS = {
-    "judge": {
+    "writers": {
         "first": ["policy"],
         "lent": ["words", "bytes", "pwords", "pbytes"],
         "test": "brokenIn",

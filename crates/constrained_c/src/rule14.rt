@@ -13,11 +13,11 @@ use model::chain::NAMES;
 pub fn check_name_constraints(words: &[u64], bytes: &[u8], i: CertRow, j: CertRow) -> bool
     ensures { λ r. ⌜ r ≡ checkNameConstraints (certAt (now (words .entry)) (now (bytes .entry)) (i .0)) (certAt (now (words .entry)) (now (bytes .entry)) (j .0)) ⌝ }
 {
-    if model::chain::cert_word(words, i, NC) == 0 {
+    if certs::cert_word(words, i, NC) == 0 {
         return true;
     }
-    let permitted = model::chain::cert_range(words, i, PERMITTED, NAMES);
-    let excluded = model::chain::cert_range(words, i, EXCLUDED, NAMES);
+    let permitted = certs::cert_range(words, i, PERMITTED, NAMES);
+    let excluded = certs::cert_range(words, i, EXCLUDED, NAMES);
     if constraints::check_subject(words, bytes, permitted, excluded, j) {
         return constraints::check_san_constraints(
             words,

@@ -17,7 +17,7 @@ fn valid_if_dns(words: &[u64], bytes: &[u8], n: NameNo) -> bool
     ensures { λ r. ⌜ r ≡ validIfDns (generalAt (now (words .entry)) (now (bytes .entry)) (n .0)) ⌝ }
 {
     if sans::is_kind(words, bytes, n, Kind::Dns) {
-        return patterns::names::valid_name_constraint(model::chain::name_text(words, bytes, n));
+        return patterns::names::valid_name_constraint(rows::name_text(words, bytes, n));
     }
     true
 }
@@ -42,11 +42,11 @@ fn all_valid(words: &[u64], bytes: &[u8], r: Range) -> bool
 pub fn valid_dns_name_constraints(words: &[u64], bytes: &[u8], c: CertRow) -> bool
     ensures { λ r. ⌜ r ≡ validDnsNameConstraints (certAt (now (words .entry)) (now (bytes .entry)) (c .0)) ⌝ }
 {
-    if model::chain::cert_word(words, c, NC) == 0 {
+    if certs::cert_word(words, c, NC) == 0 {
         return true;
     }
-    let permitted = model::chain::cert_range(words, c, PERMITTED, NAMES);
-    let excluded = model::chain::cert_range(words, c, EXCLUDED, NAMES);
+    let permitted = certs::cert_range(words, c, PERMITTED, NAMES);
+    let excluded = certs::cert_range(words, c, EXCLUDED, NAMES);
     if all_valid(words, bytes, permitted) {
         return all_valid(words, bytes, excluded);
     }

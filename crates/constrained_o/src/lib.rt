@@ -21,8 +21,8 @@ use table::Range;
 fn self_issued(words: &[u64], bytes: &[u8], c: CertRow) -> bool
     ensures { λ r. ⌜ r ≡ selfIssued (certAt (now (words .entry)) (now (bytes .entry)) (c .0)) ⌝ }
 {
-    let subject = model::chain::cert_range(words, c, 9, RDNS);
-    let issuer = model::chain::cert_range(words, c, 7, RDNS);
+    let subject = certs::cert_range(words, c, 9, RDNS);
+    let issuer = certs::cert_range(words, c, 7, RDNS);
     names::same_dn(words, bytes, Values::Normalised, subject, issuer)
 }
 
@@ -43,7 +43,7 @@ fn common_passes(
             permitted,
             excluded,
             Covering::Lowered,
-            model::chain::value(words, bytes, a),
+            rows::value(words, bytes, a),
         );
     }
     true
@@ -68,13 +68,7 @@ fn attributes_pass(words: &[u64], bytes: &[u8], permitted: Range, excluded: Rang
 fn rdn_passes(words: &[u64], bytes: &[u8], permitted: Range, excluded: Range, n: RdnNo) -> bool
     ensures { λ t. ⌜ t ≡ all (ifCommon (textPasses Lowered (generalsIn (now (words .entry)) (now (bytes .entry)) permitted) (generalsIn (now (words .entry)) (now (bytes .entry)) excluded))) (rdnAt (now (words .entry)) (now (bytes .entry)) (n .0)) ⌝ }
 {
-    attributes_pass(
-        words,
-        bytes,
-        permitted,
-        excluded,
-        model::chain::rdn(words, n),
-    )
+    attributes_pass(words, bytes, permitted, excluded, rows::rdn(words, n))
 }
 
 // Whether each common name of a distinguished name, as a range of RDNs, passes.
@@ -108,7 +102,7 @@ fn check_common_name_constraints(
         bytes,
         permitted,
         excluded,
-        model::chain::cert_range(words, c, 9, RDNS),
+        certs::cert_range(words, c, 9, RDNS),
     )
 }
 
@@ -169,7 +163,7 @@ pub fn check_name_constraints(
 ) -> bool
     ensures { λ r. ⌜ r ≡ checkNameConstraints leaf (certAt (now (words .entry)) (now (bytes .entry)) (i .0)) (certAt (now (words .entry)) (now (bytes .entry)) (j .0)) ⌝ }
 {
-    if model::chain::cert_word(words, i, 33) == 0 {
+    if certs::cert_word(words, i, 33) == 0 {
         return true;
     }
     if self_issued(words, bytes, j) {
@@ -178,8 +172,8 @@ pub fn check_name_constraints(
     check_name_constraints_helper(
         words,
         bytes,
-        model::chain::cert_range(words, i, 34, NAMES),
-        model::chain::cert_range(words, i, 36, NAMES),
+        certs::cert_range(words, i, 34, NAMES),
+        certs::cert_range(words, i, 36, NAMES),
         j,
         leaf,
     )

@@ -93,17 +93,17 @@ fn nc_match(
 ) -> bool
     ensures { λ r. ⌜ r ≡ ncMatch v (generalsIn (now (words .entry)) (now (bytes .entry)) permitted) (generalsIn (now (words .entry)) (now (bytes .entry)) excluded) (generalAt (now (words .entry)) (now (bytes .entry)) (n .0)) ⌝ }
 {
-    let k = model::chain::kind(words, n);
+    let k = rows::kind(words, n);
     if k == 0 {
-        let name = asked_name(v, model::chain::name_text(words, bytes, n));
+        let name = asked_name(v, rows::name_text(words, bytes, n));
         return check_dns_name_constraints(words, bytes, permitted, excluded, v, name);
     }
     if k == 1 {
-        let name = model::chain::name_range(words, n);
+        let name = rows::name_range(words, n);
         return check_directory_name_constraints(words, bytes, permitted, excluded, name);
     }
     if k == 2 {
-        let address = model::chain::name_text(words, bytes, n);
+        let address = rows::name_text(words, bytes, n);
         return check_ip_addr_name_constraints(words, bytes, permitted, excluded, address);
     }
     k != 3
@@ -143,7 +143,7 @@ pub fn check_san_constraints(
 ) -> bool
     ensures { λ r. ⌜ r ≡ ifThere (checkSanConstraints v (generalsIn (now (words .entry)) (now (bytes .entry)) permitted) (generalsIn (now (words .entry)) (now (bytes .entry)) excluded)) ((certAt (now (words .entry)) (now (bytes .entry)) (c .0)) .san) ⌝ }
 {
-    if model::chain::cert_word(words, c, 30) == 0 {
+    if certs::cert_word(words, c, 30) == 0 {
         return true;
     }
     names_pass(
@@ -152,7 +152,7 @@ pub fn check_san_constraints(
         permitted,
         excluded,
         v,
-        model::chain::cert_range(words, c, 31, NAMES),
+        certs::cert_range(words, c, 31, NAMES),
     )
 }
 
@@ -187,6 +187,6 @@ pub fn check_subject(
         bytes,
         permitted,
         excluded,
-        model::chain::cert_range(words, c, 9, RDNS),
+        certs::cert_range(words, c, 9, RDNS),
     )
 }

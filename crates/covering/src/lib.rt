@@ -18,7 +18,7 @@ fn directory_over(words: &[u64], bytes: &[u8], n: NameNo, name: Range) -> bool
             words,
             bytes,
             Values::Normalised,
-            model::chain::name_range(words, n),
+            rows::name_range(words, n),
             name,
         );
     }
@@ -44,10 +44,7 @@ fn ip_over(words: &[u64], bytes: &[u8], n: NameNo, address: &[u8]) -> bool
     ensures { λ r. ⌜ r ≡ overIp (now (address .entry)) (generalAt (now (words .entry)) (now (bytes .entry)) (n .0)) ⌝ }
 {
     if sans::is_kind(words, bytes, n, Kind::Ip) {
-        return patterns::address::ip_addr_in_range(
-            model::chain::name_text(words, bytes, n),
-            address,
-        );
+        return patterns::address::ip_addr_in_range(rows::name_text(words, bytes, n), address);
     }
     false
 }

@@ -2,8 +2,8 @@
 ghost use mathlib.Core.Path.{_≡_};
 ghost use Rattle.model.specs.Decode.{certAt};
 ghost use Rattle.fields.specs.Signatures.{outerInnerSigMatch};
+use certs::cert_word;
 use model::chain::CertRow;
-use model::chain::cert_word;
 use table::StringNo;
 
 const OUTER: u64 = 3;

@@ -2,8 +2,8 @@
 ghost use mathlib.Core.Path.{_≡_};
 ghost use Rattle.model.specs.Decode.{certAt};
 ghost use Rattle.fields.specs.Uids.{issuerSubjectUidVersion};
+use certs::cert_word;
 use model::chain::CertRow;
-use model::chain::cert_word;
 
 const VERSION: u64 = 1;
 

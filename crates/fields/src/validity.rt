@@ -2,8 +2,8 @@
 ghost use mathlib.Core.Path.{_≡_};
 ghost use Rattle.model.specs.Decode.{certAt, taskOf};
 ghost use Rattle.fields.specs.Validity.{checkCertTime};
+use certs::cert_word;
 use model::chain::CertRow;
-use model::chain::cert_word;
 
 // The word of the header that holds the time, and the words of a certificate that hold its two dates.
 const NOW: usize = 15;

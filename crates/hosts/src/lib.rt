@@ -35,7 +35,7 @@ fn dns_names(words: &[u64], bytes: &[u8], n: NameNo, host: &[u8]) -> bool
     ensures { λ r. ⌜ r ≡ dnsAnd (namesHost (now (host .entry))) (generalAt (now (words .entry)) (now (bytes .entry)) (n .0)) ⌝ }
 {
     if sans::is_kind(words, bytes, n, Kind::Dns) {
-        return names_host(host, model::chain::name_text(words, bytes, n));
+        return names_host(host, rows::name_text(words, bytes, n));
     }
     false
 }
@@ -58,15 +58,10 @@ fn any_dns_names(words: &[u64], bytes: &[u8], r: Range, host: &[u8]) -> bool
 fn san_names(words: &[u64], bytes: &[u8], c: CertRow, host: &[u8]) -> bool
     ensures { λ r. ⌜ r ≡ thereAnd (λ (s : San). any (dnsAnd (namesHost (now (host .entry)))) (s .names)) ((certAt (now (words .entry)) (now (bytes .entry)) (c .0)) .san) ⌝ }
 {
-    if model::chain::cert_word(words, c, 30) == 0 {
+    if certs::cert_word(words, c, 30) == 0 {
         return false;
     }
-    any_dns_names(
-        words,
-        bytes,
-        model::chain::cert_range(words, c, 31, NAMES),
-        host,
-    )
+    any_dns_names(words, bytes, certs::cert_range(words, c, 31, NAMES), host)
 }
 
 // Whether an attribute is a common name that names the host.
@@ -74,7 +69,7 @@ fn common_names(words: &[u64], bytes: &[u8], a: AttributeNo, host: &[u8]) -> boo
     ensures { λ r. ⌜ r ≡ commonAnd (namesHost (now (host .entry))) (attributeAt (now (words .entry)) (now (bytes .entry)) (a .0)) ⌝ }
 {
     if sans::is_common(words, bytes, a) {
-        return names_host(host, model::chain::value(words, bytes, a));
+        return names_host(host, rows::value(words, bytes, a));
     }
     false
 }
@@ -96,7 +91,7 @@ fn any_common_names(words: &[u64], bytes: &[u8], r: Range, host: &[u8]) -> bool
 fn rdn_names(words: &[u64], bytes: &[u8], n: RdnNo, host: &[u8]) -> bool
     ensures { λ t. ⌜ t ≡ any (commonAnd (namesHost (now (host .entry)))) (rdnAt (now (words .entry)) (now (bytes .entry)) (n .0)) ⌝ }
 {
-    any_common_names(words, bytes, model::chain::rdn(words, n), host)
+    any_common_names(words, bytes, rows::rdn(words, n), host)
 }
 
 // Whether some common name of a distinguished name, as a range of RDNs, names the host.
@@ -117,12 +112,7 @@ fn any_rdn_names(words: &[u64], bytes: &[u8], r: Range, host: &[u8]) -> bool
 fn subject_names(words: &[u64], bytes: &[u8], c: CertRow, host: &[u8]) -> bool
     ensures { λ r. ⌜ r ≡ someCommon (namesHost (now (host .entry))) ((certAt (now (words .entry)) (now (bytes .entry)) (c .0)) .subject) ⌝ }
 {
-    any_rdn_names(
-        words,
-        bytes,
-        model::chain::cert_range(words, c, 9, RDNS),
-        host,
-    )
+    any_rdn_names(words, bytes, certs::cert_range(words, c, 9, RDNS), host)
 }
 
 // Whether a certificate is one for the host.

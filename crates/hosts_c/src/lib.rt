@@ -39,7 +39,7 @@ fn dns_names(words: &[u64], bytes: &[u8], n: NameNo, exact: bool, host: &[u8]) -
     ensures { λ r. ⌜ r ≡ dnsAnd (namesClean exact (lowered (now (host .entry)))) (generalAt (now (words .entry)) (now (bytes .entry)) (n .0)) ⌝ }
 {
     if sans::is_kind(words, bytes, n, Kind::Dns) {
-        return names_clean(exact, host, model::chain::name_text(words, bytes, n));
+        return names_clean(exact, host, rows::name_text(words, bytes, n));
     }
     false
 }
@@ -80,7 +80,7 @@ fn match_san(
     any_dns_names(
         words,
         bytes,
-        model::chain::cert_range(words, c, SAN_NAMES, NAMES),
+        certs::cert_range(words, c, SAN_NAMES, NAMES),
         has_public_suffix(pwords, pbytes, host),
         host,
     )
@@ -97,7 +97,7 @@ fn match_san_domain(
 ) -> bool
     ensures { λ r. ⌜ r ≡ thereAnd (λ (s : San). matchSan (listsOf (now (pwords .entry)) (now (pbytes .entry))) s (lowered (now (host .entry)))) ((certAt (now (words .entry)) (now (bytes .entry)) (c .0)) .san) ⌝ }
 {
-    if model::chain::cert_word(words, c, SAN) == 0 {
+    if certs::cert_word(words, c, SAN) == 0 {
         return false;
     }
     match_san(words, bytes, pwords, pbytes, c, host)

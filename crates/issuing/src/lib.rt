@@ -6,10 +6,10 @@ ghost use Rattle.model.specs.Decode.{akiAt, certAt};
 ghost use Rattle.names.specs.Names.{sameDn};
 ghost use Rattle.names.specs.declared.Values.the-variants.{Normalised};
 ghost use Rattle.issuing.specs.Issuing.{keyIdIs, sameKeyId, sameSerial, checkAuthKeyId, likelyIssued};
+use certs::cert_range;
+use certs::cert_word;
 use model::chain::CertRow;
 use model::chain::RDNS;
-use model::chain::cert_range;
-use model::chain::cert_word;
 use names::Values;
 use table::StringNo;
 

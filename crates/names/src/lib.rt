@@ -37,11 +37,11 @@ fn same_as(
     requires { ⌜ now oid ≡ oidAt (now words) (now bytes) (b .0) ⌝ }
     ensures { λ r. ⌜ r ≡ sameAttr v (attributeAt (now (words .entry)) (now (bytes .entry)) (a .0)) (attributeAt (now (words .entry)) (now (bytes .entry)) (b .0)) ⌝ }
 {
-    if text::same(model::chain::oid(words, bytes, a), oid) {
+    if text::same(rows::oid(words, bytes, a), oid) {
         return same_value(
             v,
-            model::chain::value(words, bytes, a),
-            model::chain::value(words, bytes, b),
+            rows::value(words, bytes, a),
+            rows::value(words, bytes, b),
         );
     }
     false
@@ -63,7 +63,7 @@ pub fn same_attr(words: &[u64], bytes: &[u8], v: Values, a: AttributeNo, b: Attr
     if same_numbers(words, a, b) {
         return true;
     }
-    same_as(words, bytes, v, a, b, model::chain::oid(words, bytes, b))
+    same_as(words, bytes, v, a, b, rows::oid(words, bytes, b))
 }
 
 // How many rows a range has.
@@ -103,13 +103,7 @@ fn same_attrs(words: &[u64], bytes: &[u8], v: Values, x: Range, y: Range) -> boo
 pub fn same_rdn(words: &[u64], bytes: &[u8], v: Values, a: RdnNo, b: RdnNo) -> bool
     ensures { λ r. ⌜ r ≡ sameRdn v (rdnAt (now (words .entry)) (now (bytes .entry)) (a .0)) (rdnAt (now (words .entry)) (now (bytes .entry)) (b .0)) ⌝ }
 {
-    same_attrs(
-        words,
-        bytes,
-        v,
-        model::chain::rdn(words, a),
-        model::chain::rdn(words, b),
-    )
+    same_attrs(words, bytes, v, rows::rdn(words, a), rows::rdn(words, b))
 }
 
 // Whether two names, as ranges of RDNs, are the same. The lengths are compared first.
@@ -137,7 +131,7 @@ pub fn same_dn(words: &[u64], bytes: &[u8], v: Values, x: Range, y: Range) -> bo
 pub fn rdn_has_name(words: &[u64], bytes: &[u8], v: Values, r: Range, a: AttributeNo) -> bool
     ensures { λ t. ⌜ t ≡ rdnHasName v (rdnIn (now (words .entry)) (now (bytes .entry)) r) (attributeAt (now (words .entry)) (now (bytes .entry)) (a .0)) ⌝ }
 {
-    let oid = model::chain::oid(words, bytes, a);
+    let oid = rows::oid(words, bytes, a);
     let e = r.to;
     let mut i = r.from;
     while i < e {
@@ -169,8 +163,8 @@ fn has_names(words: &[u64], bytes: &[u8], v: Values, x: Range, y: Range) -> bool
 pub fn is_subtree_rdn(words: &[u64], bytes: &[u8], v: Values, a: RdnNo, b: RdnNo) -> bool
     ensures { λ r. ⌜ r ≡ isSubtreeRdn v (rdnAt (now (words .entry)) (now (bytes .entry)) (a .0)) (rdnAt (now (words .entry)) (now (bytes .entry)) (b .0)) ⌝ }
 {
-    let x = model::chain::rdn(words, a);
-    let y = model::chain::rdn(words, b);
+    let x = rows::rdn(words, a);
+    let y = rows::rdn(words, b);
     if size(y) < size(x) {
         return false;
     }

@@ -5,8 +5,8 @@ ghost use Rattle.parts.specs.Ca.{checkCa};
 use crate::BC;
 use crate::KU;
 use crate::KU_BITS;
+use certs::cert_word;
 use model::chain::CertRow;
-use model::chain::cert_word;
 
 const CA: u64 = 25;
 

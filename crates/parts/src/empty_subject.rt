@@ -4,10 +4,10 @@ ghost use Rattle.model.specs.Decode.{certAt};
 ghost use Rattle.parts.specs.EmptySubject.{emptySubjectImpliesCriticalSan};
 use crate::CRITICAL;
 use crate::SAN;
+use certs::cert_range;
+use certs::cert_word;
 use model::chain::CertRow;
 use model::chain::RDNS;
-use model::chain::cert_range;
-use model::chain::cert_word;
 
 const SUBJECT: u32 = 9;
 

@@ -7,8 +7,8 @@ use crate::CRITICAL;
 use crate::EKU;
 use crate::KU;
 use crate::SAN;
+use certs::cert_word;
 use model::chain::CertRow;
-use model::chain::cert_word;
 
 const VERSION: u64 = 1;
 

@@ -3,8 +3,8 @@ ghost use mathlib.Core.Path.{_≡_};
 ghost use Rattle.model.specs.Decode.{certAt};
 ghost use Rattle.parts.specs.PathLength.{longEnough, pathLengthHolds};
 use crate::BC;
+use certs::cert_word;
 use model::chain::CertRow;
-use model::chain::cert_word;
 use table::CertPos;
 
 const HAS_LENGTH: u64 = 26;
@@ -33,5 +33,5 @@ pub fn path_length_holds(words: &[u64], bytes: &[u8], i: CertPos, c: CertRow) ->
     if cert_word(words, c, HAS_LENGTH) == 0 {
         return true;
     }
-    long_enough(i, model::chain::signed(cert_word(words, c, LENGTH)))
+    long_enough(i, certs::signed(cert_word(words, c, LENGTH)))
 }

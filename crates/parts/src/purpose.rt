@@ -7,11 +7,11 @@ ghost use Rattle.parts.specs.Purpose.{serves, extendedKeyUsageValid, key
 use crate::EKU;
 use crate::KU;
 use crate::KU_BITS;
+use certs::cert_range;
+use certs::cert_word;
 use model::chain::CertRow;
 use model::chain::USAGES;
 use model::chain::UsageNo;
-use model::chain::cert_range;
-use model::chain::cert_word;
 use table::Range;
 
 const EKU_USAGES: u32 = 22;
@@ -45,7 +45,7 @@ fn serves(s: Serving, usage: u64) -> bool
 fn usage_serves(words: &[u64], s: Serving, n: UsageNo) -> bool
     ensures { λ r. ⌜ r ≡ serves s (usageAt (now (words .entry)) (n .0)) ⌝ }
 {
-    serves(s, model::chain::usage(words, n))
+    serves(s, rows::usage(words, n))
 }
 
 // Whether some usage of a range serves.

@@ -3,10 +3,10 @@ ghost use mathlib.Core.Path.{_≡_};
 ghost use Rattle.model.specs.Decode.{certAt};
 ghost use Rattle.parts.specs.SanNames.{checkSan};
 use crate::SAN;
+use certs::cert_range;
+use certs::cert_word;
 use model::chain::CertRow;
 use model::chain::NAMES;
-use model::chain::cert_range;
-use model::chain::cert_word;
 
 const SAN_NAMES: u32 = 31;
 

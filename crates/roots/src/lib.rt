@@ -18,6 +18,6 @@ fn fingerprint<'a>(words: &[u64], bytes: &'a [u8], c: CertRow) -> &'a [u8]
     table::string(
         words,
         bytes,
-        StringNo(model::chain::cert_word(words, c, FINGERPRINT)),
+        StringNo(certs::cert_word(words, c, FINGERPRINT)),
     )
 }

@@ -259,7 +259,7 @@ pub fn breaks(
 pub fn asks_nothing(rule: RuleNo, i: CertPos, words: &[u64], bytes: &[u8]) -> bool
     ensures { λ r. ⌜ r ≡ asksNothing (chainOf (now (words .entry)) (now (bytes .entry))) (rule .0) (i .0) ⌝ }
 {
-    let unconstrained = model::chain::cert_word(words, row_of(i), NC) == 0;
+    let unconstrained = certs::cert_word(words, row_of(i), NC) == 0;
     (rule.0 == CONSTRAINTS) & unconstrained
 }
 

@@ -33,7 +33,7 @@ fn number(k: Kind) -> u64
 pub fn is_kind(words: &[u64], bytes: &[u8], n: NameNo, k: Kind) -> bool
     ensures { λ r. ⌜ r ≡ isKind k (generalAt (now (words .entry)) (now (bytes .entry)) (n .0)) ⌝ }
 {
-    model::chain::kind(words, n) == number(k)
+    rows::kind(words, n) == number(k)
 }
 
 // Whether some name of a range is of a kind. The rows are read through a view.
@@ -47,13 +47,13 @@ pub fn has_kind(words: &[u64], bytes: &[u8], r: Range, k: Kind) -> bool
 pub fn check_san_has_dns(words: &[u64], bytes: &[u8], c: CertRow) -> bool
     ensures { λ t. ⌜ t ≡ checkSanHasDns (certAt (now (words .entry)) (now (bytes .entry)) (c .0)) ⌝ }
 {
-    if model::chain::cert_word(words, c, 30) == 0 {
+    if certs::cert_word(words, c, 30) == 0 {
         return false;
     }
     has_kind(
         words,
         bytes,
-        model::chain::cert_range(words, c, 31, NAMES),
+        certs::cert_range(words, c, 31, NAMES),
         Kind::Dns,
     )
 }
@@ -62,5 +62,5 @@ pub fn check_san_has_dns(words: &[u64], bytes: &[u8], c: CertRow) -> bool
 pub fn is_common(words: &[u64], bytes: &[u8], a: AttributeNo) -> bool
     ensures { λ r. ⌜ r ≡ isCommon (attributeAt (now (words .entry)) (now (bytes .entry)) (a .0)) ⌝ }
 {
-    text::same(model::chain::oid(words, bytes, a), b"2.5.4.3")
+    text::same(rows::oid(words, bytes, a), b"2.5.4.3")
 }
