@@ -22,8 +22,11 @@ six-placed w s a r g u c = rw (s, a, r, g, u, c) (simp (and-assoc, and-true) ref
 
 -- each of them lies in the words
 module _ (w : List ℕ) (h : allPlaced chainHeader chainSections w ≡ true) where
+  pub strings-placed : Lies w strings
+  strings-placed = lies-in chainHeader chainSections w strings h (List·Memᴰ·head refl)
+
   pub strings-lie : (b : List ℕ) → lineFine w b stringLine ≡ true → StringsLie w b
-  strings-lie b s = (lies-in chainHeader chainSections w strings h (List·Memᴰ·head refl), s)
+  strings-lie b s = (strings-placed, s)
 
   pub attributes-lie : Lies w attributes
   attributes-lie = lies-in chainHeader chainSections w attributes h (List·Memᴰ·tail (List·Memᴰ·head refl))
@@ -82,11 +85,10 @@ module _ (w b : List ℕ) where
     unfolding allFine
     chain-unplaced y = rw (← placed, y) refl
 
-    module _ {s : Bool} (strings : s ≡ lineFine w b stringLine) where
-      pub chain-out : p ≡ true → s ≡ false → false ≡ chainFine w b
-      unfolding allFine
-      chain-out y z = rw (← placed, y, chain-lines, ← strings, z) refl
+    pub chain-out : {s : Bool} → s ≡ lineFine w b stringLine → p ≡ true → s ≡ false → false ≡ chainFine w b
+    unfolding allFine
+    chain-out f y z = rw (← placed, y, chain-lines, ← f, z) refl
 
-      pub chain-in : {r : Bool} → p ≡ true → r ≡ all (lineFine w b) chainLines → r ≡ chainFine w b
-      unfolding allFine
-      chain-in y t = t ∙ rw (← placed, y) refl
+    pub chain-in : {r : Bool} → p ≡ true → r ≡ all (lineFine w b) chainLines → r ≡ chainFine w b
+    unfolding allFine
+    chain-in y t = t ∙ rw (← placed, y) refl

@@ -1,34 +1,26 @@
+use borrow.Author.Needs.{needs}
+use mathlib.Core.Path.{sym, _∙_}
+use Rattle.quick.proofs.Chain.{strings-placed, chain-unplaced, chain-out, chain-in}
 use Rattle.quick.proofs.chain_fine.Statement.{statement}
 use Rattle.quick.proofs.chain_fine.Tie as tie
-use Rattle.quick.proofs.chain_fine.Reads as reads
-use Rattle.quick.proofs.chain_fine.Lts as lts
-use Rattle.quick.proofs.chain_placed.Reads as chain-placed-reads
-use Rattle.quick.proofs.chain_rows_fine.Reads as chain-rows-fine-reads
-use Rattle.quick.proofs.strings_fit.Reads as strings-fit-reads
 
--- src/lib.rt:228:8
 chain-placed-requires : tie.Need-chain-placed-requires
-chain-placed-requires c κs = ?
+chain-placed-requires c κs = search needs
 
--- src/lib.rt:229:12
 strings-fit-requires : tie.Need-strings-fit-requires
-strings-fit-requires c κs = ?
+strings-fit-requires c κs = strings-placed _ (sym (c .before .chain-placed .ensures) ∙ c .if1 .taken)
 
--- src/lib.rt:230:13
 chain-rows-fine-requires : tie.Need-chain-rows-fine-requires
-chain-rows-fine-requires c κs = ?
+chain-rows-fine-requires c κs = (sym (c .before .before .before .chain-placed .ensures) ∙ c .before .before .if1 .taken, sym (c .before .strings-fit .ensures) ∙ c .if2 .taken)
 
--- src/lib.rt:230:13
 returns : tie.Need-returns
-returns c = ?
+returns c = chain-in _ _ (c .before .before .before .before .chain-placed .ensures) (c .before .before .before .if1 .taken) (c .chain-rows-fine .ensures)
 
--- src/lib.rt:225:1
 returns-2 : tie.Need-returns-2
-returns-2 c = ?
+returns-2 c = chain-out _ _ (c .before .before .before .chain-placed .ensures) (c .before .strings-fit .ensures) (c .before .before .if1 .taken) (c .if2 .left)
 
--- src/lib.rt:225:1
 returns-3 : tie.Need-returns-3
-returns-3 c = ?
+returns-3 c = chain-unplaced _ _ (c .before .chain-placed .ensures) (c .if1 .left)
 
 pub chain-fine-spec : {M : Type 1} → statement M
 chain-fine-spec =
