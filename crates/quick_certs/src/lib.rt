@@ -30,7 +30,7 @@ struct Counts {
 
 // The strings of the certificate at q: four numbers, and two that may be absent.
 fn strings_fit(words: &[u64], q: usize, n: u64) -> bool
-    requires { ⌜ (q + 41 ≤ length (now words)) × (n ≡ countOf (now words) stringRows) ⌝ }
+    requires { ⌜ (q + certRows .size ≤ length (now words)) × (n ≡ countOf (now words) stringRows) ⌝ }
     ensures { λ r. ⌜ ((b : List ℕ) → r ≡ rowFine (now (words .entry)) b (take 6 certStringsOut) q) ⌝ }
 {
     (words[q] < n)
@@ -43,7 +43,7 @@ fn strings_fit(words: &[u64], q: usize, n: u64) -> bool
 
 // The strings of AKI and SKI, where the part is there.
 fn key_ids_fit(words: &[u64], q: usize, n: u64) -> bool
-    requires { ⌜ (q + 41 ≤ length (now words)) × (n ≡ countOf (now words) stringRows) ⌝ }
+    requires { ⌜ (q + certRows .size ≤ length (now words)) × (n ≡ countOf (now words) stringRows) ⌝ }
     ensures { λ r. ⌜ ((b : List ℕ) → r ≡ rowFine (now (words .entry)) b (drop 6 certStringsOut) q) ⌝ }
 {
     let aki = words[q + 15];
@@ -71,7 +71,7 @@ fn part_range_fits(words: &[u64], m: usize, p: usize, count: u64) -> bool
 
 // The ranges of the certificate at q.
 fn ranges_fit(words: &[u64], q: usize, k: Counts) -> bool
-    requires { ⌜ (q + 41 ≤ length (now words)) × Counted (now words) k ⌝ }
+    requires { ⌜ (q + certRows .size ≤ length (now words)) × Counted (now words) k ⌝ }
     ensures { λ r. ⌜ ((b : List ℕ) → r ≡ rowFine (now (words .entry)) b certRangesOut q) ⌝ }
 {
     range_fits(words, q + 7, k.rdns)
@@ -84,7 +84,7 @@ fn ranges_fit(words: &[u64], q: usize, k: Counts) -> bool
 
 // Whether the certificate at q has one of the nine parts.
 fn some_part(words: &[u64], q: usize) -> bool
-    requires { ⌜ q + 41 ≤ length (now words) ⌝ }
+    requires { ⌜ q + certRows .size ≤ length (now words) ⌝ }
     ensures { λ r. ⌜ r ≡ somePart (now (words .entry)) q ⌝ }
 {
     (words[q + 15] != 0)
@@ -100,7 +100,7 @@ fn some_part(words: &[u64], q: usize) -> bool
 
 // Word 40 of the certificate at q: 1, or 0 without a part.
 fn extensions_fit(words: &[u64], q: usize) -> bool
-    requires { ⌜ q + 41 ≤ length (now words) ⌝ }
+    requires { ⌜ q + certRows .size ≤ length (now words) ⌝ }
     ensures { λ r. ⌜ r ≡ not (extensionsWrong (now (words .entry)) q) ⌝ }
 {
     let any = words[q + 40];
@@ -109,7 +109,7 @@ fn extensions_fit(words: &[u64], q: usize) -> bool
 
 // The codes of the certificate at q, those of BC and KU where the part is there.
 fn codes_fit(words: &[u64], q: usize) -> bool
-    requires { ⌜ q + 41 ≤ length (now words) ⌝ }
+    requires { ⌜ q + certRows .size ≤ length (now words) ⌝ }
     ensures { λ r. ⌜ ((b : List ℕ) → r ≡ rowFine (now (words .entry)) b (linesOf (certRows .count) codesOver) q) ⌝ }
 {
     let bc = words[q + 24];
@@ -123,7 +123,7 @@ fn codes_fit(words: &[u64], q: usize) -> bool
 
 // The marks of the nine parts of the certificate at q.
 fn marks_fit(words: &[u64], q: usize) -> bool
-    requires { ⌜ q + 41 ≤ length (now words) ⌝ }
+    requires { ⌜ q + certRows .size ≤ length (now words) ⌝ }
     ensures { λ r. ⌜ ((b : List ℕ) → r ≡ rowFine (now (words .entry)) b marksOver q) ⌝ }
 {
     (words[q + 15] <= 3)
@@ -139,7 +139,7 @@ fn marks_fit(words: &[u64], q: usize) -> bool
 
 // Everything of the certificate at q.
 fn cert_fits(words: &[u64], q: usize, k: Counts) -> bool
-    requires { ⌜ (q + 41 ≤ length (now words)) × Counted (now words) k ⌝ }
+    requires { ⌜ (q + certRows .size ≤ length (now words)) × Counted (now words) k ⌝ }
     ensures { λ r. ⌜ ((b : List ℕ) → r ≡ rowFine (now (words .entry)) b (linesOf (certRows .count) chainLines) q) ⌝ }
 {
     strings_fit(words, q, k.strings)
@@ -151,14 +151,14 @@ fn cert_fits(words: &[u64], q: usize, k: Counts) -> bool
 
 // Each of n certificates, the first of which begins at a word.
 fn certs_fit(words: &[u64], at: usize, n: usize, k: Counts) -> bool
-    requires { ⌜ (at + 41 * n ≤ length (now words)) × Counted (now words) k ⌝ }
-    ensures { λ r. ⌜ ((b : List ℕ) → r ≡ all (λ i. rowFine (now (words .entry)) b (linesOf (certRows .count) chainLines) (at + 41 * i)) (numbers 0 n)) ⌝ }
+    requires { ⌜ (at + certRows .size * n ≤ length (now words)) × Counted (now words) k ⌝ }
+    ensures { λ r. ⌜ ((b : List ℕ) → r ≡ all (λ i. rowFine (now (words .entry)) b (linesOf (certRows .count) chainLines) (at + certRows .size * i)) (numbers 0 n)) ⌝ }
 {
     let mut q = at;
     let mut i = 0;
     while i < n {
         if cert_fits(words, q, k) {
-            q += 41;
+            q += CERTS.size as usize;
             i += 1;
         } else {
             return false;

@@ -16,13 +16,13 @@ use Rattle.quick_certs.proofs.certs_fit.Tie as tie
 
 -- the rows that were passed are right
 abbrev Inv-loop : tie.InvT-loop
-Inv-loop words at n k q₀ i₀ q i = (q ≡ at + 41 * i) × (at + 41 * n ≤ length words) × Counted words k × ((b : List ℕ) → all (λ j. rowFine words b (linesOf (certs .count) chainLines) (at + 41 * j)) (numbers 0 n) ≡ all (λ j. rowFine words b (linesOf (certs .count) chainLines) (at + 41 * j)) (numbers i n))
+Inv-loop words at n k q₀ i₀ q i = (q ≡ at + certs .size * i) × (at + certs .size * n ≤ length words) × Counted words k × ((b : List ℕ) → all (λ j. rowFine words b (linesOf (certs .count) chainLines) (at + certs .size * j)) (numbers 0 n) ≡ all (λ j. rowFine words b (linesOf (certs .count) chainLines) (at + certs .size * j)) (numbers i n))
 
 abbrev μ-loop : tie.MeasureT-loop
 μ-loop words at n k q₀ i₀ q i = n - i
 
 loop-holds : tie.Need-loop-holds Inv-loop μ-loop
-loop-holds c = (row-first _ 41, c .before .pre .0, c .before .pre .1, λ b. refl)
+loop-holds c = (row-first _ (certs .size), c .before .pre .0, c .before .pre .1, λ b. refl)
 
 cert-fits-requires : tie.Need-cert-fits-requires Inv-loop μ-loop
 cert-fits-requires c κs = (omega (arith, c .before .loop .inv .0, c .before .loop .inv .1), c .before .loop .inv .2)
