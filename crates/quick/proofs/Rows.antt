@@ -21,12 +21,8 @@ use Rattle.quick_certs.specs.Asked.{rowFine, rowsFine, linesOf}
 use Rattle.quick_certs.proofs.Tests.{below, at-most, number-right, fine-more, fine-last}
 
 -- a string that is there, without a high byte
-module _ (n count : ℕ) (high : Bool) where
-  pub no-such-string : count ≤ n → false ≡ (not (leb count n) && not high)
-  no-such-string h = rw (le-leb count n h) refl
-
-  pub such-string : {r : Bool} → n < count → r ≡ high → not r ≡ (not (leb count n) && not high)
-  such-string h t = rw (lt-leb count n h, t) refl
+pub such-string : (n count : ℕ) {r high : Bool} → n < count → r ≡ high → not r ≡ (not (leb count n) && not high)
+such-string n count h t = rw (lt-leb count n h, t) refl
 
 module _ (w b : List ℕ) (q : ℕ) where
   -- ---- A
@@ -81,7 +77,7 @@ module _ (w b : List ℕ) {host purpose : ℕ} (e : host ≡ word w 13) (f : pur
       header-row {x = leb n (host - 1)} {z = highString w b (host - 1)}
       (rw (← e, ← g) (before-host n))
       (rw (← e, ne-eqb host 0 z) refl)
-      (rw t (and-assoc _ _ _)) where
+      (rw t (and-assoc (not (leb n (host - 1))) (not (highString w b (host - 1))) (eqb purpose 0))) where
     before-host : (n : ℕ) → leb n (host - 1) ≡ ltb n host
     before-host n = elim (decLt n host) [
       | yes l ↦ le-leb n (host - 1) (omega arith) ∙ sym (lt-ltb n host l)

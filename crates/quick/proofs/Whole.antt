@@ -19,18 +19,18 @@ use Rattle.quick_certs.proofs.Steps.{placed-lies}
 use Rattle.quick.specs.Fine.{allPlaced, lineFine}
 
 -- ---- two tests of a list at once
+-- a, b, c and d in another order
+swapped : (a b c d : Bool) → ((a && b) && (c && d)) ≡ ((a && c) && (b && d))
+swapped false b c d = refl
+swapped true false false d = refl
+swapped true false true d = refl
+swapped true true c d = refl
+
 module _ {A : Type 0} where
   all-true : (l : List A) → true ≡ all (λ x. true) l
   unfolding all
   all-true [] = refl
   all-true (x ∷ l) = all-true l
-
-  -- a, b, c and d in another order
-  swapped : (a b c d : Bool) → ((a && b) && (c && d)) ≡ ((a && c) && (b && d))
-  swapped false b c d = refl
-  swapped true false false d = refl
-  swapped true false true d = refl
-  swapped true true c d = refl
 
   all-and : (p q : A → Bool) (l : List A) → (all p l && all q l) ≡ all (λ x. p x && q x) l
   unfolding all
@@ -52,6 +52,11 @@ abbrev pub othersOf : ℕ → List Line → List Line
 othersOf k [] = []
 othersOf k (l ∷ ls) = pick (eqb (countWord (l .block)) k) (othersOf k ls) (l ∷ othersOf k ls)
 
+moved : (a c d : Bool) → (a && (c && d)) ≡ (c && (a && d))
+moved true c d = refl
+moved false false d = refl
+moved false true d = refl
+
 pub split : (f : Line → Bool) (k : ℕ) (ls : List Line) → all f ls ≡ (all f (linesOf k ls) && all f (othersOf k ls))
 unfolding all
 split f k [] = refl
@@ -59,11 +64,6 @@ split f k (l ∷ ls) = go (eqb (countWord (l .block)) k) (split f k ls) where
   go : (t : Bool) → all f ls ≡ (all f (linesOf k ls) && all f (othersOf k ls)) → (f l && all f ls) ≡ (all f (pick t (l ∷ linesOf k ls) (linesOf k ls)) && all f (pick t (othersOf k ls) (l ∷ othersOf k ls)))
   go true e = rw e (sym (and-assoc (f l) (all f (linesOf k ls)) (all f (othersOf k ls))))
   go false e = rw e (moved (f l) (all f (linesOf k ls)) (all f (othersOf k ls)))
-
-  moved : (a c d : Bool) → (a && (c && d)) ≡ (c && (a && d))
-  moved true c d = refl
-  moved false false d = refl
-  moved false true d = refl
 
 -- ---- sections in their places
 module _ {A : Type 0} (p : A → Bool) where

@@ -4,11 +4,11 @@ use mathlib.Core.List.{List}
 use mathlib.Core.Bool.{Bool, not, _&&_}
 use Rattle.laws.specs.Lists.{numbers, all}
 use Rattle.table.specs.declared.Section.{Section}
-use Rattle.model.specs.Sections.{chainHeader, policyHeader}
+use Rattle.model.specs.Sections.{chainHeader}
 use Rattle.row_tests.specs.Wrong.{wrong}
 use Rattle.search.specs.declared.Line.{Line}
 use Rattle.search.specs.Rows.{rowsOf, rowAt, misplaced}
-use Rattle.lines.specs.Tables.{chainLines, chainSections, policyLines, policySections}
+use Rattle.lines.specs.Tables.{chainLines, chainSections}
 
 -- no section is misplaced
 unfoldable pub allPlaced : ℕ → List Section → List ℕ → Bool
@@ -25,7 +25,3 @@ allFine header sections lines w b = allPlaced header sections w && all (lineFine
 -- the chain's bundle
 abbrev pub chainFine : List ℕ → List ℕ → Bool
 chainFine = allFine chainHeader chainSections chainLines
-
--- the policy's bundle
-abbrev pub policyFine : List ℕ → List ℕ → Bool
-policyFine = allFine policyHeader policySections policyLines

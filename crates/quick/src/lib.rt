@@ -77,7 +77,7 @@ fn is_high(words: &[u64], bytes: &[u8], s: StringNo) -> bool
     ensures { λ r. ⌜ r ≡ highString (now (words .entry)) (now (bytes .entry)) (s .0) ⌝ }
 {
     let n = s.0;
-    let p = (table::offset(words, STRINGS) + 2 * n) as usize;
+    let p = (table::offset(words, STRINGS) + STRINGS.size * n) as usize;
     let start = words[p] as usize;
     let end = start + words[p + 1] as usize;
     text::has_high(&bytes[start..end])
@@ -96,7 +96,7 @@ fn is_ascii(words: &[u64], bytes: &[u8], s: StringNo, count: u64) -> bool
 
 // The attribute at q: its OID is a string, and its value one without a byte over 127.
 fn attribute_fits(words: &[u64], bytes: &[u8], q: usize, strings: u64) -> bool
-    requires { ⌜ (q + 2 ≤ length (now words)) × StringsLie (now words) (now bytes) × (strings ≡ countOf (now words) stringRows) ⌝ }
+    requires { ⌜ (q + attributeRows .size ≤ length (now words)) × StringsLie (now words) (now bytes) × (strings ≡ countOf (now words) stringRows) ⌝ }
     ensures { λ r. ⌜ r ≡ rowFine (now (words .entry)) (now (bytes .entry)) (linesOf (attributeRows .count) chainLines) q ⌝ }
 {
     (words[q] < strings) & is_ascii(words, bytes, StringNo(words[q + 1]), strings)
@@ -113,7 +113,7 @@ fn attributes_fine(words: &[u64], bytes: &[u8]) -> bool
     let mut i = 0;
     while i < n {
         if attribute_fits(words, bytes, q, strings) {
-            q += 2;
+            q += ATTRIBUTES.size as usize;
             i += 1;
         } else {
             return false;
@@ -137,7 +137,7 @@ fn rdns_fine(words: &[u64]) -> bool
 
 // The name at q: what its kind asks for.
 fn name_fits(words: &[u64], bytes: &[u8], q: usize, strings: u64, rdns: u64) -> bool
-    requires { ⌜ (q + 3 ≤ length (now words)) × StringsLie (now words) (now bytes) × (strings ≡ countOf (now words) stringRows) × (rdns ≡ countOf (now words) rdnRows) ⌝ }
+    requires { ⌜ (q + nameRows .size ≤ length (now words)) × StringsLie (now words) (now bytes) × (strings ≡ countOf (now words) stringRows) × (rdns ≡ countOf (now words) rdnRows) ⌝ }
     ensures { λ r. ⌜ r ≡ rowFine (now (words .entry)) (now (bytes .entry)) (linesOf (nameRows .count) chainLines) q ⌝ }
 {
     let kind = words[q];
@@ -161,7 +161,7 @@ fn names_fine(words: &[u64], bytes: &[u8]) -> bool
     let mut i = 0;
     while i < n {
         if name_fits(words, bytes, q, strings, rdns) {
-            q += 3;
+            q += NAMES.size as usize;
             i += 1;
         } else {
             return false;

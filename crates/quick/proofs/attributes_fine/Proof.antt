@@ -18,7 +18,7 @@ use Rattle.quick.proofs.attributes_fine.Tie as tie
 
 -- the rows that were passed are right
 abbrev Inv-loop : tie.InvT-loop
-Inv-loop words bytes strings n q₀ i₀ q i = (q ≡ q₀ + 2 * i) × (q₀ + 2 * n ≤ length words) × StringsLie words bytes × (strings ≡ countOf words stringRows) × (rowsFine words bytes (linesOf (attributes .count) chainLines) (All attributes) ≡ all (λ k. rowFine words bytes (linesOf (attributes .count) chainLines) (q₀ + 2 * k)) (numbers i n))
+Inv-loop words bytes strings n q₀ i₀ q i = (q ≡ q₀ + attributes .size * i) × (q₀ + attributes .size * n ≤ length words) × StringsLie words bytes × (strings ≡ countOf words stringRows) × (rowsFine words bytes (linesOf (attributes .count) chainLines) (All attributes) ≡ all (λ k. rowFine words bytes (linesOf (attributes .count) chainLines) (q₀ + attributes .size * k)) (numbers i n))
 
 abbrev μ-loop : tie.MeasureT-loop
 μ-loop words bytes strings n q₀ i₀ q i = n - i
@@ -35,7 +35,7 @@ offset-requires c κs = search needs
 loop-holds : tie.Need-loop-holds Inv-loop μ-loop
 loop-holds c =
     let known = c .before .before .before .before .before .pre in
-    (row-first _ 2, omega (arith, known .0, c .before .count2 .ensures, c .offset .ensures), known .1, c .before .before .count .ensures, sym (rows-as _ _ attributes (attributes .count) (c .offset .ensures) (c .before .count2 .ensures) refl))
+    (row-first _ (attributes .size), omega (arith, known .0, c .before .count2 .ensures, c .offset .ensures), known .1, c .before .before .count .ensures, sym (rows-as _ _ attributes (attributes .count) (c .offset .ensures) (c .before .count2 .ensures) refl))
 
 attribute-fits-requires : tie.Need-attribute-fits-requires Inv-loop μ-loop
 attribute-fits-requires c κs = (omega (arith, c .before .loop .inv .0, c .before .loop .inv .1), c .before .loop .inv .2, c .before .loop .inv .3)

@@ -31,7 +31,7 @@ shared-slice-read-end c = search needs
 
 add-end-2 : tie.Need-add-end-2
 unfolding word
-add-end-2 c = omega (arith, string-ends _ _ (c .before .before .before .before .before .pre .0) _ (c .before .before .before .before .before .pre .1) (c .before .before .offset .ensures))
+add-end-2 c = omega (arith, string-ends _ _ (c .before .before .before .before .before .before .pre .0) _ (c .before .before .before .before .before .before .pre .1) (c .before .before .before .offset .ensures))
 
 sub-has-high : tie.Need-sub-has-high
 sub-has-high c = search needs
@@ -41,14 +41,14 @@ part-has-high-start c = search needs
 
 part-has-high-end : tie.Need-part-has-high-end
 unfolding word
-part-has-high-end c = omega (arith, string-ends _ _ (c .before .before .before .before .before .pre .0) _ (c .before .before .before .before .before .pre .1) (c .before .before .offset .ensures))
+part-has-high-end c = omega (arith, string-ends _ _ (c .before .before .before .before .before .before .pre .0) _ (c .before .before .before .before .before .before .pre .1) (c .before .before .before .offset .ensures))
 
 has-high-requires : tie.Need-has-high-requires
 has-high-requires c κs = search needs
 
 returns : tie.Need-returns
 unfolding word
-returns c = string-read _ _ (c .before .before .before .before .before .before .before .pre .0) _ (c .before .before .before .before .before .before .before .pre .1) (c .before .before .before .before .offset .ensures) (c .has-high .ensures)
+returns c = string-read _ _ (c .before .before .before .before .before .before .before .before .pre .0) _ (c .before .before .before .before .before .before .before .before .pre .1) (c .before .before .before .before .before .offset .ensures) (c .has-high .ensures)
 
 pub is-high-spec : {M : Type 1} → statement M
 is-high-spec =

@@ -18,7 +18,7 @@ use Rattle.quick.proofs.names_fine.Tie as tie
 
 -- the rows that were passed are right
 abbrev Inv-loop : tie.InvT-loop
-Inv-loop words bytes strings rdns n q₀ i₀ q i = (q ≡ q₀ + 3 * i) × (q₀ + 3 * n ≤ length words) × StringsLie words bytes × (strings ≡ countOf words stringRows) × (rdns ≡ countOf words rdnRows) × (rowsFine words bytes (linesOf (names .count) chainLines) (All names) ≡ all (λ k. rowFine words bytes (linesOf (names .count) chainLines) (q₀ + 3 * k)) (numbers i n))
+Inv-loop words bytes strings rdns n q₀ i₀ q i = (q ≡ q₀ + names .size * i) × (q₀ + names .size * n ≤ length words) × StringsLie words bytes × (strings ≡ countOf words stringRows) × (rdns ≡ countOf words rdnRows) × (rowsFine words bytes (linesOf (names .count) chainLines) (All names) ≡ all (λ k. rowFine words bytes (linesOf (names .count) chainLines) (q₀ + names .size * k)) (numbers i n))
 
 abbrev μ-loop : tie.MeasureT-loop
 μ-loop words bytes strings rdns n q₀ i₀ q i = n - i
@@ -38,7 +38,7 @@ offset-requires c κs = search needs
 loop-holds : tie.Need-loop-holds Inv-loop μ-loop
 loop-holds c =
     let known = c .before .before .before .before .before .before .pre in
-    (row-first _ 3, omega (arith, known .0, c .before .count3 .ensures, c .offset .ensures), known .1, c .before .before .before .count .ensures, c .before .before .count2 .ensures, sym (rows-as _ _ names (names .count) (c .offset .ensures) (c .before .count3 .ensures) refl))
+    (row-first _ (names .size), omega (arith, known .0, c .before .count3 .ensures, c .offset .ensures), known .1, c .before .before .before .count .ensures, c .before .before .count2 .ensures, sym (rows-as _ _ names (names .count) (c .offset .ensures) (c .before .count3 .ensures) refl))
 
 name-fits-requires : tie.Need-name-fits-requires Inv-loop μ-loop
 name-fits-requires c κs = (omega (arith, c .before .loop .inv .0, c .before .loop .inv .1), c .before .loop .inv .2, c .before .loop .inv .3, c .before .loop .inv .4)
