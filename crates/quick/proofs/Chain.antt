@@ -1,6 +1,6 @@
 -- The sections and the lines of a chain bundle, as they are asked. Assumes nothing.
 use Prim.Native.Nat.{ℕ}
-use mathlib.Core.Path.{_≡_, refl, sym, ap₂, _∙_}
+use mathlib.Core.Path.{_≡_, refl, ap₂, _∙_}
 use mathlib.Core.List.{List, List·Memᴰ·head, List·Memᴰ·tail}
 use mathlib.Core.Bool.{Bool, true, false, not, _&&_, and-assoc, and-true}
 use Rattle.laws.specs.Lists.{all}
@@ -8,7 +8,7 @@ use Rattle.table.specs.Table.{strings}
 use Rattle.model.specs.Sections.{chainHeader, attributes, rdns, names, usages, certs}
 use Rattle.search.specs.declared.Line.{Line}
 use Rattle.search.specs.declared.Block.the-variants.{Header, All}
-use Rattle.search.specs.Rows.{rowsOf, misplaced}
+use Rattle.search.specs.Rows.{misplaced}
 use Rattle.lines.specs.Tables.{chainSections, chainLines}
 use Rattle.quick_certs.specs.Asked.{rowFine, rowsFine, linesOf, certsFine, Lies}
 use Rattle.quick.specs.Fine.{allPlaced, lineFine, allFine, chainFine}

@@ -1,12 +1,12 @@
 -- The rows of the tables and the header, as they are asked. Assumes nothing.
-use Prim.Native.Nat.{ℕ, _+_, _*_, _-_, _≤_, _<_}
+use Prim.Native.Nat.{ℕ, _+_, _*_, _-_, _<_}
 use native.Mathlib.Omega.{arith}
 use native.Mathlib.Decide.{decLt}
 use native.Mathlib.Nat.{add-zero, one-mul}
 use mathlib.Core.Path.{_≡_, refl, sym, ap, _∙_}
 use mathlib.Core.Logic.{inl, inr, ⊎-elim}
 use mathlib.Core.List.{List}
-use mathlib.Core.Bool.{Bool, true, false, not, _&&_, and-assoc, and-true, Bool·not-not}
+use mathlib.Core.Bool.{Bool, false, not, _&&_, and-assoc, and-true, Bool·not-not}
 use lib.Dec.{leb, ltb, eqb}
 use borrow.Author.Tests.{lt-ltb, le-ltb, le-leb, lt-leb, ne-eqb}
 use Rattle.laws.specs.Lists.{numbers, all}
@@ -18,7 +18,7 @@ use Rattle.search.specs.declared.Block.the-variants.{All}
 use Rattle.search.specs.Rows.{rowsOf}
 use Rattle.lines.specs.Tables.{chainLines}
 use Rattle.quick_certs.specs.Asked.{rowFine, rowsFine, linesOf}
-use Rattle.quick_certs.proofs.Tests.{below, at-most, number-right, fine-more, fine-last}
+use Rattle.quick_certs.proofs.Tests.{at-most, number-right, fine-more, fine-last}
 
 -- a string that is there, without a high byte
 pub such-string : (n count : ℕ) {r high : Bool} → n < count → r ≡ high → not r ≡ (not (leb count n) && not high)
@@ -78,11 +78,11 @@ module _ (w b : List ℕ) {host purpose : ℕ} (e : host ≡ word w 13) (f : pur
       (rw (← e, ← g) (before-host n))
       (rw (← e, ne-eqb host 0 z) refl)
       (rw t (and-assoc (not (leb n (host - 1))) (not (highString w b (host - 1))) (eqb purpose 0))) where
-    before-host : (n : ℕ) → leb n (host - 1) ≡ ltb n host
-    before-host n = elim (decLt n host) [
-      | yes l ↦ le-leb n (host - 1) (omega arith) ∙ sym (lt-ltb n host l)
-      | no m ↦ lt-leb n (host - 1) (omega arith) ∙ sym (le-ltb n host (omega arith))
-    ]
+        before-host : (n : ℕ) → leb n (host - 1) ≡ ltb n host
+        before-host n = elim (decLt n host) [
+          | yes l ↦ le-leb n (host - 1) (omega arith) ∙ sym (lt-ltb n host l)
+          | no m ↦ lt-leb n (host - 1) (omega arith) ∙ sym (le-ltb n host (omega arith))
+        ]
 
 -- ---- R and U
 module _ (w b : List ℕ) {at n : ℕ} where

@@ -1,9 +1,9 @@
 -- The two statements of a bundle with which nothing is wrong say the same. Assumes nothing.
-use Prim.Native.Nat.{ℕ, _<_, zero-le}
+use Prim.Native.Nat.{ℕ, zero-le}
 use mathlib.Core.Path.{_≡_, refl, ap}
 use mathlib.Core.Logic.{_↔_}
 use mathlib.Core.List.{List, [], _∷_, List·Memᴰ, List·Memᴰ·head, List·Memᴰ·tail}
-use mathlib.Core.Bool.{Bool, true, false, not, _&&_}
+use mathlib.Core.Bool.{Bool, true, not}
 use borrow.Author.Tests.{not-true}
 use Rattle.laws.specs.Lists.{all}
 use Rattle.laws.proofs.Meaning.{all-every, every-all}

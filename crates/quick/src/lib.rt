@@ -193,7 +193,8 @@ fn header_fine(words: &[u64], bytes: &[u8]) -> bool
     if host == 0 {
         return purpose == 0;
     }
-    is_ascii(words, bytes, StringNo(host - 1), table::count(words, STRINGS)) & (purpose == 0)
+    let strings = table::count(words, STRINGS);
+    is_ascii(words, bytes, StringNo(host - 1), strings) & (purpose == 0)
 }
 
 // Whether each section is in its place.

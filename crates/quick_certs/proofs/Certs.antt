@@ -1,15 +1,14 @@
 -- A certificate's row, group by group. Assumes nothing.
 use Prim.Native.Nat.{ℕ, _+_}
 use native.Mathlib.Nat.{add-zero}
-use mathlib.Core.Path.{_≡_, refl, _∙_}
+use mathlib.Core.Path.{_≡_, refl}
 use mathlib.Core.List.{List, _++_}
 use mathlib.Core.Bool.{Bool, true, false, not, _&&_, _||_, and-assoc}
 use lib.Dec.{leb, ltb, eqb}
 use lib.ListN.{take, drop}
 use Rattle.table.specs.Table.{word, countOf, strings}
-use Rattle.model.specs.Sections.{certs}
+use Rattle.model.specs.Sections.{rdns, names, usages, certs}
 use Rattle.row_tests.specs.Wrong.{noString, noOptional, noRange, over, there, somePart, extensionsWrong}
-use Rattle.model.specs.Sections.{rdns, names, usages}
 use Rattle.lines.specs.Tables.{certStringsOut, certRangesOut, codesOver, marksOver, chainLines}
 use Rattle.quick_certs.specs.Asked.{rowFine, linesOf}
 use Rattle.quick_certs.proofs.Tests.{at-most, number-right, optional-right, over-right, part-right, fine-more, fine-last, fine-then}

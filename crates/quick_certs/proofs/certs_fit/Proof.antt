@@ -7,7 +7,7 @@ use lib.ListN.{length}
 use Rattle.laws.specs.Lists.{numbers, all}
 use Rattle.laws.proofs.Loops.{all-none}
 use Rattle.model.specs.Sections.{certs}
-use Rattle.search.proofs.Steps.{row-first, row-next, row-fits}
+use Rattle.search.proofs.Steps.{row-first, row-next}
 use Rattle.lines.specs.Tables.{chainLines}
 use Rattle.quick_certs.specs.Asked.{rowFine, linesOf, Counted}
 use Rattle.quick_certs.proofs.Steps.{row-stops, row-passes}
