@@ -21,19 +21,20 @@ use Rattle.row_tests.specs.Wrong.{noString, noOptional, noRange, over, t
 pub by-test : (t s : Test) (w b : List ℕ) (q j : ℕ) {r : Bool} → t ≡ s → r ≡ wrong s w b q j → r ≡ wrong t w b q j
 by-test t s w b q j e h = h ∙ ap (λ (x : Test). wrong x w b q j) (sym e)
 
--- two words against a limit, without their sum
-module _ (most : ℕ) (w : List ℕ) (p : ℕ) where
-  pub sum-past : length w ≤ p → false ≡ ltb most (word w p + word w (p + 1))
-  sum-past h = rw (← word-past w p h, ← word-past w (p + 1) (omega arith)) (sym (le-ltb most 0 (omega arith)))
+-- a range against a count, without its sum
+module _ (first n count : ℕ) where
+  pub first-past : count < first → true ≡ ltb count (first + n)
+  first-past h = sym (lt-ltb count (first + n) (omega arith))
 
-  pub sum-first : {a : ℕ} → a ≡ word w p → most < a → true ≡ ltb most (word w p + word w (p + 1))
-  sum-first e h = sym (lt-ltb most (word w p + word w (p + 1)) (omega arith))
-
-  pub sum-both : {a c : ℕ} → a ≡ word w p → c ≡ word w (p + 1) → a ≤ most → ltb (most - a) c ≡ ltb most (word w p + word w (p + 1))
-  sum-both {a} {c} e f h = elim (decLt (most - a) c) [
-    | yes l ↦ lt-ltb (most - a) c l ∙ sym (lt-ltb most (word w p + word w (p + 1)) (omega arith))
-    | no n ↦ le-ltb (most - a) c (omega arith) ∙ sym (le-ltb most (word w p + word w (p + 1)) (omega arith))
+  pub sum-past : first ≤ count → ltb (count - first) n ≡ ltb count (first + n)
+  sum-past h = elim (decLt (count - first) n) [
+    | yes l ↦ lt-ltb (count - first) n l ∙ sym (lt-ltb count (first + n) (omega arith))
+    | no m ↦ le-ltb (count - first) n (omega arith) ∙ sym (le-ltb count (first + n) (omega arith))
   ]
+
+-- two words past the end
+pub words-past : (count : ℕ) (w : List ℕ) (p : ℕ) → length w ≤ p → false ≡ ltb count (word w p + word w (p + 1))
+words-past count w p h = rw (← word-past w p h, ← word-past w (p + 1) (omega arith)) (sym (le-ltb count 0 (omega arith)))
 
 -- a name by its kind k
 module _ (w : List ℕ) (q : ℕ) {k : ℕ} (e : k ≡ word w q) where

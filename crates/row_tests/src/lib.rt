@@ -1,8 +1,8 @@
 // What can be wrong with a word of a row of a bundle. The public tests ask nothing of their caller.
 ghost use mathlib.Core.Path.{_≡_};
-ghost use Prim.Native.Nat.{_-_, _≤_, min};
+ghost use Prim.Native.Nat.{_+_, _-_, _≤_, min};
 ghost use mathlib.Core.Bool.{_&&_};
-ghost use lib.Dec.{eqb};
+ghost use lib.Dec.{eqb, ltb};
 ghost use lib.ListN.{length};
 ghost use Rattle.table.specs.Table.{word as wordOf};
 ghost use Rattle.row_tests.specs.Wrong.{noString, noOptional, noRange, over, there, highString, stringOut, nameOut, somePart, extensionsWrong, wrong};
@@ -45,19 +45,24 @@ fn no_optional(words: &[u64], p: usize) -> bool
     table::count(words, STRINGS) < word(words, p)
 }
 
-// Whether words p and p + 1, first and count, are no range of the section. Their sum is not made: it could wrap.
+// Whether n things from the first on end past the last of so many. The sum is not made: it could wrap.
+pub fn ends_past(first: u64, n: u64, count: u64) -> bool
+    ensures { λ r. ⌜ r ≡ ltb count (first + n) ⌝ }
+{
+    if count < first {
+        return true;
+    }
+    count - first < n
+}
+
+// Whether words p and p + 1, first and count, are no range of the section.
 pub fn no_range(words: &[u64], s: Section, p: usize) -> bool
     ensures { λ r. ⌜ r ≡ noRange (now (words .entry)) s p ⌝ }
 {
     if words.len() <= p {
         return false;
     }
-    let n = table::count(words, s);
-    let first = word(words, p);
-    if n < first {
-        return true;
-    }
-    n - first < word(words, p + 1)
+    ends_past(word(words, p), word(words, p + 1), table::count(words, s))
 }
 
 // Whether word p is above a number.
@@ -81,19 +86,14 @@ fn high_string(words: &[u64], bytes: &[u8], n: StringNo) -> bool
     text::has_high(table::string(words, bytes, n))
 }
 
-// Whether the string with start and length at p and p + 1 ends outside the bytes. Their sum is not made either.
+// Whether the string with start and length at p and p + 1 ends outside the bytes.
 pub fn string_out(words: &[u64], bytes: &[u8], p: usize) -> bool
     ensures { λ r. ⌜ r ≡ stringOut (now (words .entry)) (now (bytes .entry)) p ⌝ }
 {
     if words.len() <= p {
         return false;
     }
-    let total = bytes.len() as u64;
-    let start = word(words, p);
-    if total < start {
-        return true;
-    }
-    total - start < word(words, p + 1)
+    ends_past(word(words, p), word(words, p + 1), bytes.len() as u64)
 }
 
 // Whether the name at q has an x, or an x and y, that its kind does not allow.

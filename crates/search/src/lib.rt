@@ -1,4 +1,4 @@
-// The search for the first fault of a bundle, a section or a line at a time. The two public functions ask nothing of their caller.
+// The search for the first fault of a bundle, a section or a line at a time. The public functions ask nothing of their caller.
 ghost use mathlib.Core.Path.{_≡_};
 ghost use Prim.Native.Nat.{_+_, _≤_};
 ghost use mathlib.Core.Bool.{_&&_, _||_};
@@ -72,7 +72,7 @@ fn earlier(f: Found, n: u64, p: usize) -> Found
 }
 
 // Whether a section begins in the header or ends past the words, by a division, which can't wrap.
-fn is_misplaced(words: &[u64], header: usize, s: Section) -> bool
+pub fn is_misplaced(words: &[u64], header: usize, s: Section) -> bool
     ensures { λ r. ⌜ r ≡ misplaced header (now (words .entry)) s ⌝ }
 {
     let total = words.len() as u64;

@@ -1,18 +1,19 @@
 -- From what is found to the answer, for any layout whose lines are numbered from 5 on. Assumes nothing.
-use Prim.Native.Nat.{ℕ, _<_, _≤_}
+use Prim.Native.Nat.{ℕ, _+_, _<_, _≤_}
 use native.Mathlib.Omega.{arith}
 use native.Mathlib.Decide.{decLt}
 use mathlib.Core.Path.{_≡_, refl, sym, ap, _∙_}
-use mathlib.Core.Logic.{_⊎_, inl, inr, ⊎-elim}
+use mathlib.Core.Logic.{_⊎_, inl, inr, ⊎-elim, _↔_}
 use mathlib.Core.List.{List, List·Memᴰ}
 use mathlib.Core.Bool.{Bool, true, false, not, true≢false}
 use lib.Dec.{eqb}
 use Rattle.table.specs.Table.{word}
 use Rattle.table.specs.declared.Section.{Section}
+use Rattle.row_tests.specs.Wrong.{wrong}
 use Rattle.search.specs.declared.Line.{Line}
 use Rattle.search.specs.declared.Found.{Found}
 use Rattle.search.specs.declared.Found.the-variants.{Clear, At}
-use Rattle.search.specs.Rows.{misplaced}
+use Rattle.search.specs.Rows.{rowsOf, rowAt, misplaced}
 use Rattle.search.specs.Found.{foundIn, foundSection}
 use Rattle.sound.specs.declared.Bundle.{Bundle}
 use Rattle.sound.specs.declared.Bundle.the-variants.{Chain, Policy}
@@ -21,8 +22,11 @@ use Rattle.sound.specs.declared.Place.the-variants.{Nothing, Word, Certi
 use Rattle.sound.specs.declared.Checked.{Checked}
 use Rattle.sound.specs.declared.Checked.the-variants.{Sound, Refused}
 use Rattle.sound.specs.Answer.{bundleNumber, placeKind, placeFirst, Before, First, Verdict}
-use Rattle.sound.specs.Fault.{Layout, Fault, size, otherEdition, section, row, edition}
+use Rattle.sound.specs.Fault.{Layout, Fault, size, otherEdition, section, row, edition, InLine}
 use Rattle.lines.specs.Each.{foundEach}
+use Rattle.quick.specs.Fine.{allFine}
+use Rattle.quick.specs.Stated.{AllFine}
+use Rattle.quick.proofs.Theorems.{fine-stated}
 use Rattle.sound.proofs.Fitting.{Within}
 use Rattle.sound.proofs.Order.{FirstOf, all-first, first-same, LineFault, found-first, SectionFault, section-first}
 
@@ -95,6 +99,36 @@ module _ (y : Layout) (w b : List ℕ) (from5 : (l : Line) → List·Memᴰ l (y
               let s : (n p : ℕ) → Lines n p → ⊥ = rw q at lines-first in
               ⊎-elim (no-section n p) (s n p) (stage4 g e n p h)
 
+  -- ---- a bundle with which nothing is wrong
+  no-late : AllFine (y .header) (y .sections) (y .lines) w b → (n p : ℕ) → Sections n p ⊎ Lines n p → ⊥
+  unfolding InLine
+  no-late h n p = ⊎-elim (λ s. true≢false (sym (s .2 .2) ∙ h .placed (s .0) (s .1))) (λ l. true≢false (sym (l .2 .1 .3) ∙ h .right (l .0) (l .1) (l .2 .1 .0) (l .2 .1 .1)))
+
+  pub fine-sound : y .large ≡ false → not (eqb (word w 0) edition) ≡ false → allFine (y .header) (y .sections) (y .lines) w b ≡ true → (n p : ℕ) → Fault y w b n p → ⊥
+  fine-sound g e h n p f = no-late (fine-stated (y .header) (y .sections) (y .lines) w b .0 h) n p (stage4 g e n p f)
+
+  -- it is one without a fault of refusals 4 to 8
+  pub fine-faultless : (allFine (y .header) (y .sections) (y .lines) w b ≡ true) ↔ ((n p : ℕ) → 4 ≤ n → Fault y w b n p → ⊥)
+  unfolding InLine
+  fine-faultless = (λ h n p l f. late (fine-stated (y .header) (y .sections) (y .lines) w b .0 h) n p l f, λ h. fine-stated (y .header) (y .sections) (y .lines) w b .1 (record { placed = placed-of h; right = right-of h })) where
+    late : AllFine (y .header) (y .sections) (y .lines) w b → (n p : ℕ) → 4 ≤ n → Fault y w b n p → ⊥
+    late h n p l (size e k t) = omega arith
+    late h n p l (otherEdition e k t) = omega arith
+    late h n p l (section s m e k t) = no-late h n p (inl (s, m, (e, k, t)))
+    late h n p l (row x m e t) = no-late h n p (inr (x, m, (e, t)))
+
+    placed-of : ((n p : ℕ) → 4 ≤ n → Fault y w b n p → ⊥) → (s : Section) → List·Memᴰ s (y .sections) → misplaced (y .header) w s ≡ false
+    placed-of h s m = go (misplaced (y .header) w s) refl where
+      go : (t : Bool) → misplaced (y .header) w s ≡ t → t ≡ false
+      go true e = absurd (h 4 (s .count) (omega arith) (section s m refl refl e))
+      go false e = refl
+
+    right-of : ((n p : ℕ) → 4 ≤ n → Fault y w b n p → ⊥) → (l : Line) → List·Memᴰ l (y .lines) → (i : ℕ) → i < rowsOf w (l .block) .count → wrong (l .test) w b (rowAt (rowsOf w (l .block)) i) (l .word) ≡ false
+    right-of h l m i k = go (wrong (l .test) w b (rowAt (rowsOf w (l .block)) i) (l .word)) refl where
+      go : (t : Bool) → wrong (l .test) w b (rowAt (rowsOf w (l .block)) i) (l .word) ≡ t → t ≡ false
+      go true e = absurd (h (l .number) (rowAt (rowsOf w (l .block)) i + l .word) (omega (arith, from5 l m)) (row l m refl (i, k, refl, e)))
+      go false e = refl
+
 -- ---- any two answers that the faults allow are equal
 three : (a b : ℕ) → (a < b) ⊎ ((a ≡ b) ⊎ (b < a))
 three a b = elim (decLt a b) [ yes l ↦ inl l | no n ↦ elim (decLt b a) [ yes g ↦ inr (inr g) | no m ↦ inr (inl (omega arith)) ] ]
@@ -142,6 +176,9 @@ module _ (y : Layout) (w b : List ℕ) (from5 : (l : Line) → List·Memᴰ l (y
   module _ (h : g ≡ false) {o : Bool} (other : o ≡ not (eqb (word w 0) edition)) where
     pub answer-edition : {r : Checked} → o ≡ true → r ≡ Refused 3 k (Word 0) → Verdict (Fault y w b) k r
     answer-edition t e = answered (Fault y w b) k 3 0 (other-edition y w b from5 (sym large ∙ h) (sym other ∙ t)) e
+
+    pub answer-fine : {f : Bool} → o ≡ false → f ≡ allFine (y .header) (y .sections) (y .lines) w b → f ≡ true → Verdict (Fault y w b) k Sound
+    answer-fine d t q = fine-sound y w b from5 (sym large ∙ h) (sym other ∙ d) (sym t ∙ q)
 
     module _ (d : o ≡ false) {s : Found} (sections : s ≡ foundEach (foundSection (y .header) w) Clear (y .sections)) where
       pub answer-section : (n p : ℕ) {r : Checked} → s ≡ At n p → r ≡ Refused n k (Word p) → Verdict (Fault y w b) k r

@@ -1,3 +1,4 @@
+pub mod Blocks
 pub mod Chars
 pub mod Laws
 pub mod Theorems

@@ -2,10 +2,10 @@
 pub mod byte_table;
 
 ghost use mathlib.Core.Path.{_≡_};
-ghost use Prim.Native.Nat.{_+_};
+ghost use Prim.Native.Nat.{_+_, _≤_};
 ghost use lib.Dec.{eqb};
-ghost use lib.ListN.{length};
-ghost use Rattle.laws.specs.Lists.{any, all, eqList};
+ghost use lib.ListN.{length, getD};
+ghost use Rattle.laws.specs.Lists.{numbers, any, all, eqList};
 ghost use Rattle.text.specs.Bytes.{isHigh, isHostByte, lowerByte, classOf, wholeTable};
 ghost use Rattle.text.specs.Texts.{takenByte, taken, lowered, startsWith, endsWith, matchDnsName};
 
@@ -64,8 +64,23 @@ pub fn has_class(s: &[u8], class: u8) -> bool
     false
 }
 
-// Whether some byte is no ASCII character. Neither a table nor a way out, so that many bytes are looked at at once.
-pub fn has_high(s: &[u8]) -> bool
+// Whether one of the eight bytes from i on is no ASCII character.
+fn has_high_eight(s: &[u8], i: usize) -> bool
+    requires { ⌜ i + 8 ≤ length (now s) ⌝ }
+    ensures { λ r. ⌜ r ≡ any (λ k. isHigh (getD (now (s .entry)) k 0)) (numbers i (i + 8)) ⌝ }
+{
+    (128 <= s[i])
+        | (128 <= s[i + 1])
+        | (128 <= s[i + 2])
+        | (128 <= s[i + 3])
+        | (128 <= s[i + 4])
+        | (128 <= s[i + 5])
+        | (128 <= s[i + 6])
+        | (128 <= s[i + 7])
+}
+
+// Whether one of a few bytes is no ASCII character.
+fn has_high_few(s: &[u8]) -> bool
     ensures { λ r. ⌜ r ≡ any isHigh (now (s .entry)) ⌝ }
 {
     let mut high = false;
@@ -75,6 +90,24 @@ pub fn has_high(s: &[u8]) -> bool
         i += 1;
     }
     high
+}
+
+// Whether some byte is no ASCII character. Most texts are short, so that they are looked at by eight bytes; the last eight may meet those before them.
+pub fn has_high(s: &[u8]) -> bool
+    ensures { λ r. ⌜ r ≡ any isHigh (now (s .entry)) ⌝ }
+{
+    if s.len() < 8 {
+        return has_high_few(s);
+    }
+    let last = s.len() - 8;
+    let mut i = 0;
+    while i < last {
+        if has_high_eight(s, i) {
+            return true;
+        }
+        i += 8;
+    }
+    has_high_eight(s, last)
 }
 
 fn is_host_byte(table: &[u16; 256], x: u8) -> bool
