@@ -24,9 +24,9 @@ NUMBERS = {
     "table::field": {"n": "a row of any section", "j": "the place of a word in a row"},
     "table::clip": {"first": "a row of any section", "n": "a count of rows", "rows": "a count of rows"},
     "model::chain::rows_in": {"first": "a row of any section", "n": "a count of rows"},
-    "model::chain::cert_word": {"j": "the place of a word in a row"},
-    "model::chain::cert_range": {"j": "the place of a word in a row"},
-    "model::chain::signed": {"word": "a word of a bundle"},
+    "certs::cert_word": {"j": "the place of a word in a row"},
+    "certs::cert_range": {"j": "the place of a word in a row"},
+    "certs::signed": {"word": "a word of a bundle"},
     "fields::key_level::check_cert_key_level": {"least": "a count of bits"},
     "roots::calendar::Calendar::span_valid": {"begin": "a date", "end": "a date"},
     "view::word": {"j": "the place of a word in a row"},
@@ -42,6 +42,7 @@ NUMBERS = {
     "data_file::read_words": {"n": "a count of words"},
     "data_file::read_bytes": {"n": "a count of bytes"},
     "data_file::words_to": {"n": "a count of words"},
+    "writers::write_report": {"n": "a count of certificates"},
     "faults::without": {"n": "a count of certificates", "k": "a count of certificates"},
 }
 INTEGER = re.compile(r"^(u8|u16|u32|u64|usize|i64)$")
