@@ -12,11 +12,11 @@ word-requires-2 c κs = search needs
 returns : tie.Need-returns
 returns c = no-host-row _ _ (c .before .before .word .ensures) (c .before .word2 .ensures) (c .if1 .taken)
 
-sub-t6 : tie.Need-sub-t6
-sub-t6 c = search needs
-
 count-requires : tie.Need-count-requires
 count-requires c κs = search needs
+
+sub-t8 : tie.Need-sub-t8
+sub-t8 c = search needs
 
 is-ascii-requires : tie.Need-is-ascii-requires
 is-ascii-requires c κs = search needs
@@ -31,7 +31,7 @@ header-fine-spec =
     word-requires
     word-requires-2
     returns
-    sub-t6
     count-requires
+    sub-t8
     is-ascii-requires
     returns-2)
