@@ -80,14 +80,14 @@ ROWS = [
         "uses": ["Rattle.model.specs.Decode.{attributeAt}", "Rattle.names.specs.Names.{rdnHasName, rdnIn}"],
     },
     {
-        "crate": "parts",
-        "function": "purpose::any_serves",
+        "crate": "purpose",
+        "function": "any_serves",
         "kind": "any",
         "parameters": "words s e",
         "test": "usage_serves",
         "definition": "serves s",
         "read": "usageAt words",
-        "uses": ["Rattle.model.specs.Decode.{usageAt}", "Rattle.parts.specs.Purpose.{serves}"],
+        "uses": ["Rattle.model.specs.Decode.{usageAt}", "Rattle.purpose.specs.Purpose.{serves}"],
     },
     {
         "crate": "covering",

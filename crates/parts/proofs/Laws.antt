@@ -3,7 +3,7 @@ use Prim.Native.Nat.{ℕ, zero, suc, _-_, _^_, _≤_, _<_}
 use native.Mathlib.Omega.{arith}
 use native.Mathlib.Decide.{decLt}
 use mathlib.Core.Path.{_≡_, refl, sym, ap, _∙_}
-use mathlib.Core.Bool.{Bool, true, false, not, _&&_, _||_, Bool·not-not, and-true, and-false, or-false}
+use mathlib.Core.Bool.{Bool, true, false, not, _&&_, _||_, Bool·not-not, and-true}
 use mathlib.Core.Option.{none, some}
 use lib.Dec.{eqb, ltb, leb}
 use lib.IntN.{ℤ, pos}
@@ -18,14 +18,11 @@ use Rattle.laws.proofs.Rows.{rows-empty}
 use Rattle.table.specs.Table.{over}
 use Rattle.table.specs.declared.Range.{Range}
 use Rattle.model.specs.Model.{noExtensions, someExtensions}
-use Rattle.model.specs.Decode.{unlessZero, markOf, extensionsOf, usageOf, signedOf}
+use Rattle.model.specs.Decode.{unlessZero, markOf, extensionsOf, signedOf}
 use Rattle.model.proofs.Optional.{there-is}
 use Rattle.parts.specs.KeyIds.{anyExtensions}
 use Rattle.parts.specs.Marks.{isCritical}
 use Rattle.parts.specs.PathLength.{longEnough}
-use Rattle.parts.specs.Purpose.{anyServes, serves}
-use Rattle.parts.specs.declared.purpose.Serving.{Serving}
-use Rattle.parts.specs.declared.purpose.Serving.the-variants.{Server, ServerOrAny}
 
 -- ---- a part x, there unless the word w is 0; c is the word as it was read
 module _ {A : Type 0} (w : ℕ) (x : A) {c : ℕ} (e : c ≡ w) where
@@ -92,25 +89,6 @@ module _ (v : ℕ) (a b : Bool) {u : ℕ} (e : u ≡ v) {r : Bool} where
 
   pub below-two : u < 2 → r ≡ b → r ≡ pick (leb 2 v) a b
   below-two l h = rw (← e, lt-leb 2 u l) h
-
--- ---- rule 8
-serves-word : (s : Serving) (u : ℕ) → (eqb u 0 || anyServes s && eqb u 6) ≡ serves s (usageOf u)
-unfolding serves usageOf
-serves-word s zero = refl
-serves-word s (suc zero) = and-false (anyServes s)
-serves-word s (suc (suc zero)) = and-false (anyServes s)
-serves-word s (suc (suc (suc zero))) = and-false (anyServes s)
-serves-word s (suc (suc (suc (suc zero)))) = and-false (anyServes s)
-serves-word s (suc (suc (suc (suc (suc zero))))) = and-false (anyServes s)
-serves-word s (suc (suc (suc (suc (suc (suc zero)))))) = and-true (anyServes s)
-serves-word s (suc (suc (suc (suc (suc (suc (suc u))))))) = rw (ne-eqb (suc (suc (suc (suc (suc (suc (suc u))))))) 0 (λ e. omega arith), ne-eqb (suc (suc (suc (suc (suc (suc (suc u))))))) 6 (λ e. omega arith)) (and-false (anyServes s))
-
-module _ (s : Serving) (u : ℕ) where
-  pub server-only : s ≡ Server → eqb u 0 ≡ serves s (usageOf u)
-  server-only e = rw (← serves-word s u, e) (sym (or-false (eqb u 0)))
-
-  pub server-or-any : s ≡ ServerOrAny → (eqb u 0 || eqb u 6) ≡ serves s (usageOf u)
-  server-or-any e = rw (← serves-word s u, e) refl
 
 -- ---- rule 10; l is the path length, which is as wide as its type
 module _ (i : ℕ) (l : ℤ) (f : SFits w64 l) where

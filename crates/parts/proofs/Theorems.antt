@@ -1,4 +1,4 @@
--- What rules 7 to 12 mean: the same said another way, document 01's easy slips, and its specimens of path lengths. Assumes nothing.
+-- What rules 7 and 9 to 12 mean: the same said another way, document 01's easy slips, and its specimens of path lengths. Assumes nothing.
 use Prim.Native.Nat.{ℕ, zero, suc, _-_, _≤_, _<_}
 use native.Mathlib.Omega.{arith}
 use mathlib.Core.Path.{_≡_, refl}
@@ -13,19 +13,16 @@ use lib.Signed.{leZ, _≤ℤ_}
 use borrow.Author.Tests.{ne-eqb, lt-leb}
 use Rattle.laws.specs.Lists.{isEmpty}
 use Rattle.laws.specs.Optional.{thereAnd}
-use Rattle.laws.proofs.Meaning.{any-index, index-any}
 use Rattle.laws.proofs.Optional.{if-there-means, there-and-means}
 use Rattle.laws.proofs.Tests.{and-left, and-right}
-use Rattle.model.specs.Model.{Mark, noMark, notCritical, critical, Name, Cert, Aki, Bc, San, otherUsage}
+use Rattle.model.specs.Model.{Mark, noMark, notCritical, critical, Name, Cert, Aki, Bc, San}
 use Rattle.parts.specs.Ca.{checkCa}
 use Rattle.parts.specs.EmptySubject.{emptySubjectImpliesCriticalSan}
 use Rattle.parts.specs.KeyIds.{idsNotCritical, hasNoParts, checkAuthSubjectKeyId}
 use Rattle.parts.specs.Marks.{isCritical}
 use Rattle.parts.specs.PathLength.{longEnough, pathLengthHolds}
-use Rattle.parts.specs.Purpose.{serves, extendedKeyUsageValid}
 use Rattle.parts.specs.SanNames.{checkSan}
-use Rattle.parts.specs.Stated.{ExtendedKeyUsageValid, CheckCa, PathLengthHolds, CheckSan, EmptySubjectImpliesCriticalSan}
-use Rattle.parts.specs.declared.purpose.Serving.{Serving}
+use Rattle.parts.specs.Stated.{CheckCa, PathLengthHolds, CheckSan, EmptySubjectImpliesCriticalSan}
 
 -- ---- rule 7
 -- below version 2 a certificate without parts passes, at the leaf without AKI too
@@ -37,16 +34,6 @@ old-passes root leaf c l h n = rw (h, lt-leb 2 (c .version) l) n
 pub critical-breaks : (root leaf : Bool) (c : Cert) (a : Aki) → c .aki ≡ some a → a .mark ≡ critical → checkAuthSubjectKeyId root leaf c ≡ false
 unfolding checkAuthSubjectKeyId idsNotCritical isCritical
 critical-breaks root leaf c a e m = rw (e, m) refl
-
--- ---- rule 8
-pub extended-key-usage-valid-means : (s : Serving) (c : Cert) → (extendedKeyUsageValid s c ≡ true) ↔ ExtendedKeyUsageValid s c
-unfolding extendedKeyUsageValid
-extended-key-usage-valid-means s c = (to, from) where
-  to : extendedKeyUsageValid s c ≡ true → ExtendedKeyUsageValid s c
-  to h e i = let (k, l, m, y) = any-index otherUsage (serves s) (e .usages) (if-there-means _ (c .eku) .0 h e i) in (k, m, y)
-
-  from : ExtendedKeyUsageValid s c → extendedKeyUsageValid s c ≡ true
-  from f = if-there-means _ (c .eku) .1 (λ e i. let (k, m, y) = f e i in index-any otherUsage (serves s) (e .usages) (k, omega arith, m, y))
 
 -- ---- rule 9
 pub check-ca-means : (c : Cert) → (checkCa c ≡ true) ↔ CheckCa c

@@ -3,6 +3,5 @@ pub mod EmptySubject
 pub mod KeyIds
 pub mod Marks
 pub mod PathLength
-pub mod Purpose
 pub mod SanNames
 pub mod Stated

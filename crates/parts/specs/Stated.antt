@@ -1,19 +1,13 @@
--- Rules 8 to 12 said with "for every" and "for some", as upstream says them; that the tests mean this is proved. Assumes nothing.
+-- Rules 9 to 12 said with "for every" and "for some", as upstream says them; that the tests mean this is proved. Assumes nothing.
 use Prim.Native.Nat.{ℕ, _-_, _≤_, _<_}
 use mathlib.Core.Path.{_≡_}
 use mathlib.Core.List.{[]}
 use mathlib.Core.Bool.{true}
 use mathlib.Core.Option.{some}
 use lib.IntN.{ℤ, pos}
-use lib.ListN.{length, getD}
+use lib.ListN.{length}
 use lib.Signed.{_≤ℤ_}
-use Rattle.model.specs.Model.{Cert, Eku, Bc, Ku, San, otherUsage, critical}
-use Rattle.parts.specs.Purpose.{serves}
-use Rattle.parts.specs.declared.purpose.Serving.{Serving}
-
--- of an EKU that is there, usage k serves for some k
-abbrev pub ExtendedKeyUsageValid : Serving → Cert → Type 0
-ExtendedKeyUsageValid s c = (e : Eku) → c .eku ≡ some e → (k : ℕ) × (k < length (e .usages)) × (serves s (getD (e .usages) k otherUsage) ≡ true)
+use Rattle.model.specs.Model.{Cert, Bc, Ku, San, critical}
 
 -- there is a BC with CA, and a KU that is there has key_cert_sign
 abbrev pub CheckCa : Cert → Type 0

@@ -8,7 +8,7 @@ use faults::Spot;
 use model::chain::CERTS;
 use model::chain::CertRow;
 use model::chain::row_of;
-use parts::purpose::Serving;
+use purpose::Serving;
 use table::CertPos;
 use table::RuleNo;
 
@@ -72,9 +72,9 @@ fn purpose_holds(policy: Policy, words: &[u64], bytes: &[u8], leaf: bool, c: Cer
     ensures { λ r. ⌜ r ≡ purposeHolds policy leaf (certAt (now (words .entry)) (now (bytes .entry)) (c .0)) ⌝ }
 {
     match policy {
-        Policy::OpenSsl => parts::purpose::check_purpose(words, bytes, leaf, c),
+        Policy::OpenSsl => purpose::check_purpose(words, bytes, leaf, c),
         Policy::Chrome => {
-            parts::purpose::extended_key_usage_valid(words, bytes, Serving::ServerOrAny, c)
+            purpose::extended_key_usage_valid(words, bytes, Serving::ServerOrAny, c)
         }
     }
 }

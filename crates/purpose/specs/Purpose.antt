@@ -3,8 +3,8 @@ use mathlib.Core.Bool.{Bool, true, false, not, _&&_, _||_}
 use Rattle.laws.specs.Lists.{any}
 use Rattle.laws.specs.Optional.{ifThere}
 use Rattle.model.specs.Model.{Usage, serverAuth, clientAuth, codeSigning, emailProtection, timeStamping, ocspSigning, anyUsage, otherUsage, Cert, Eku, Ku}
-use Rattle.parts.specs.declared.purpose.Serving.{Serving}
-use Rattle.parts.specs.declared.purpose.Serving.the-variants.{Server, ServerOrAny}
+use Rattle.purpose.specs.declared.Serving.{Serving}
+use Rattle.purpose.specs.declared.Serving.the-variants.{Server, ServerOrAny}
 
 -- whether Any serves as ServerAuth does
 abbrev pub anyServes : Serving → Bool

@@ -1,6 +1,6 @@
 use borrow.Author.Needs.{needs}
-use Rattle.parts.proofs.purpose.usage_serves.Statement.{statement}
-use Rattle.parts.proofs.purpose.usage_serves.Tie as tie
+use Rattle.purpose.proofs.usage_serves.Statement.{statement}
+use Rattle.purpose.proofs.usage_serves.Tie as tie
 
 usage-requires : tie.Need-usage-requires
 usage-requires c κs = search needs

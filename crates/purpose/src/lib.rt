@@ -1,12 +1,9 @@
-// Rule 8.
+// Rule 8: what the key may be used for.
 ghost use mathlib.Core.Path.{_≡_};
 ghost use Rattle.laws.specs.Lists.{any};
 ghost use Rattle.table.specs.Table.{over};
 ghost use Rattle.model.specs.Decode.{certAt, usageOf, usageAt};
-ghost use Rattle.parts.specs.Purpose.{serves, extendedKeyUsageValid, keyUsageServes, checkPurpose};
-use crate::EKU;
-use crate::KU;
-use crate::KU_BITS;
+ghost use Rattle.purpose.specs.Purpose.{serves, extendedKeyUsageValid, keyUsageServes, checkPurpose};
 use certs::cert_range;
 use certs::cert_word;
 use model::chain::CertRow;
@@ -14,7 +11,14 @@ use model::chain::USAGES;
 use model::chain::UsageNo;
 use table::Range;
 
+// The words of a certificate that the rule reads.
+const EKU: u64 = 21;
+
 const EKU_USAGES: u32 = 22;
+
+const KU: u64 = 28;
+
+const KU_BITS: u64 = 29;
 
 const SERVER_AUTH: u64 = 0;
 

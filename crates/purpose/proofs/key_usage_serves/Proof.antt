@@ -1,10 +1,10 @@
 use mathlib.Core.Path.{refl}
 use borrow.Author.Needs.{needs}
 use Rattle.model.specs.Decode.{bitOf}
-use Rattle.parts.specs.Purpose.{keyUsageServes}
+use Rattle.purpose.specs.Purpose.{keyUsageServes}
 use Rattle.parts.proofs.Laws.{passes}
-use Rattle.parts.proofs.purpose.key_usage_serves.Statement.{statement}
-use Rattle.parts.proofs.purpose.key_usage_serves.Tie as tie
+use Rattle.purpose.proofs.key_usage_serves.Statement.{statement}
+use Rattle.purpose.proofs.key_usage_serves.Tie as tie
 
 cert-word-requires : tie.Need-cert-word-requires
 cert-word-requires c κs = search needs

@@ -1,7 +1,7 @@
 use borrow.Author.Needs.{needs}
-use Rattle.parts.proofs.Laws.{server-only, server-or-any}
-use Rattle.parts.proofs.purpose.serves.Statement.{statement}
-use Rattle.parts.proofs.purpose.serves.Tie as tie
+use Rattle.purpose.proofs.Laws.{server-only, server-or-any}
+use Rattle.purpose.proofs.serves.Statement.{statement}
+use Rattle.purpose.proofs.serves.Tie as tie
 
 enum-told : tie.Need-enum-told
 enum-told c = search needs

@@ -1,9 +1,9 @@
 use mathlib.Core.Path.{_∙_}
 use borrow.Author.Needs.{needs}
 use Rattle.model.proofs.Optional.{absent-passes, present-passes}
-use Rattle.parts.specs.Purpose.{extendedKeyUsageValid}
-use Rattle.parts.proofs.purpose.extended_key_usage_valid.Statement.{statement}
-use Rattle.parts.proofs.purpose.extended_key_usage_valid.Tie as tie
+use Rattle.purpose.specs.Purpose.{extendedKeyUsageValid}
+use Rattle.purpose.proofs.extended_key_usage_valid.Statement.{statement}
+use Rattle.purpose.proofs.extended_key_usage_valid.Tie as tie
 
 cert-word-requires : tie.Need-cert-word-requires
 cert-word-requires c κs = search needs

@@ -1,7 +1,7 @@
 use borrow.Author.Needs.{needs}
-use Rattle.parts.specs.Purpose.{checkPurpose}
-use Rattle.parts.proofs.purpose.check_purpose.Statement.{statement}
-use Rattle.parts.proofs.purpose.check_purpose.Tie as tie
+use Rattle.purpose.specs.Purpose.{checkPurpose}
+use Rattle.purpose.proofs.check_purpose.Statement.{statement}
+use Rattle.purpose.proofs.check_purpose.Tie as tie
 
 extended-key-usage-valid-requires : tie.Need-extended-key-usage-valid-requires
 extended-key-usage-valid-requires c κs = search needs

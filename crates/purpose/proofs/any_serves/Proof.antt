@@ -4,10 +4,10 @@ use mathlib.Core.Path.{_≡_, refl}
 use borrow.Author.Needs.{needs}
 use Rattle.laws.specs.Lists.{rows, any}
 use Rattle.model.specs.Decode.{usageAt}
-use Rattle.parts.specs.Purpose.{serves}
+use Rattle.purpose.specs.Purpose.{serves}
 use Rattle.laws.proofs.Loops.{any-here, any-next, any-none}
-use Rattle.parts.proofs.purpose.any_serves.Statement.{statement}
-use Rattle.parts.proofs.purpose.any_serves.Tie as tie
+use Rattle.purpose.proofs.any_serves.Statement.{statement}
+use Rattle.purpose.proofs.any_serves.Tie as tie
 
 abbrev Inv-loop : tie.InvT-loop
 Inv-loop words s e i₀ i = any (serves s) (rows (usageAt words) i₀ e) ≡ any (serves s) (rows (usageAt words) i e)
