@@ -1,10 +1,12 @@
 -- What eight bytes of a data file are as a number, and what a read may do. Assumes nothing.
-use Prim.Native.Nat.{ℕ, _+_, _*_, _<_}
+use Prim.Native.Nat.{ℕ, _+_, _*_, _≤_, _<_}
 use mathlib.Core.Path.{_≡_}
 use mathlib.Core.List.{List, [], _∷_}
 use lib.ListN.{length, drop}
 use Rattle.data_file.specs.declared.Got.{Got}
-use Rattle.data_file.specs.declared.Got.the-variants.{All, Nothing, Less}
+use Rattle.data_file.specs.declared.Got.the-variants.{All, Less}
+use Rattle.data_file.specs.declared.Read.{Read}
+use Rattle.data_file.specs.declared.Read.the-variants.{Is, Nothing, Less as LessRead}
 
 -- bytes as a number, the low byte first
 unfoldable pub wordOf : List ℕ → ℕ
@@ -19,3 +21,19 @@ pub record Filled (n : ℕ) (old new : List ℕ) (got : Got) : Type 0 where
   pub no-room : length old < n → (new ≡ old) × (got ≡ Less)
   -- none is all there is to ask for
   pub none-asked : n ≡ 0 → got ≡ All
+
+-- some values were put at the start of a lent list, and what stands behind them stays
+pub record Given (old new : List ℕ) : Type 0 where
+  pub count : ℕ
+  pub has-room : count ≤ length old
+  pub rest-stays : drop count new ≡ drop count old
+
+-- words and bytes
+abbrev pub BothGiven : List ℕ → List ℕ → List ℕ → List ℕ → Type 0
+BothGiven words words' bytes bytes' = Given words words' × Given bytes bytes'
+
+-- a bundle that was read stands in front of the zeros lent; where the file had ended nothing changes
+abbrev pub BundleRead : List ℕ → List ℕ → List ℕ → List ℕ → Read → Type 0
+BundleRead words words' bytes bytes' (Is size) = BothGiven words words' bytes bytes'
+BundleRead words words' bytes bytes' Nothing = (words' ≡ words) × (bytes' ≡ bytes)
+BundleRead words words' bytes bytes' LessRead = Unit {0}
