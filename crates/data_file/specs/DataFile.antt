@@ -22,18 +22,12 @@ pub record Filled (n : ℕ) (old new : List ℕ) (got : Got) : Type 0 where
   -- none is all there is to ask for
   pub none-asked : n ≡ 0 → got ≡ All
 
--- some values were put at the start of a lent list, and what stands behind them stays
-pub record Given (old new : List ℕ) : Type 0 where
-  pub count : ℕ
-  pub has-room : count ≤ length old
-  pub rest-stays : drop count new ≡ drop count old
+-- a lent list begins with n values that were read, zeros behind them included; what stands behind the n stays
+abbrev pub Begins : ℕ → List ℕ → List ℕ → Type 0
+Begins n old new = (n ≤ length old) × (drop n new ≡ drop n old)
 
--- words and bytes
-abbrev pub BothGiven : List ℕ → List ℕ → List ℕ → List ℕ → Type 0
-BothGiven words words' bytes bytes' = Given words words' × Given bytes bytes'
-
--- a bundle that was read stands in front of the zeros lent; where the file had ended nothing changes
+-- a bundle that was read has room in what is lent; where the file had ended nothing changes
 abbrev pub BundleRead : List ℕ → List ℕ → List ℕ → List ℕ → Read → Type 0
-BundleRead words words' bytes bytes' (Is size) = BothGiven words words' bytes bytes'
+BundleRead words words' bytes bytes' (Is size) = Begins (size .words) words words' × Begins (size .bytes) bytes bytes'
 BundleRead words words' bytes bytes' Nothing = (words' ≡ words) × (bytes' ≡ bytes)
 BundleRead words words' bytes bytes' LessRead = Unit {0}

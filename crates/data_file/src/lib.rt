@@ -1,9 +1,9 @@
 // Reads of a data file: words of eight bytes each, and bytes. No contract can say what a file holds: these say what a read may change, and what it answers without one.
-ghost use Prim.Native.Nat.{_+_, _*_, _<_};
+ghost use Prim.Native.Nat.{_+_, _*_, _≤_, _<_};
 ghost use mathlib.Core.Path.{_≡_};
 ghost use mathlib.Core.Bool.{true};
-ghost use lib.ListN.{take};
-ghost use Rattle.data_file.specs.DataFile.{wordOf, Filled, BothGiven, BundleRead};
+ghost use lib.ListN.{getD, take};
+ghost use Rattle.data_file.specs.DataFile.{wordOf, Filled, Begins, BundleRead};
 
 // What a read got: all that was asked for; nothing, since the file had ended; or less, since it ended on the way or there was no room.
 pub enum Got {
@@ -106,20 +106,39 @@ pub fn read_bytes(fd: i32, bytes: &mut [u8], n: usize) -> Got
     ended(got)
 }
 
-// Reads so many words and bytes, to the start of those lent.
-fn read_given(fd: i32, nwords: u64, nbytes: u64, words: &mut [u64], bytes: &mut [u8]) -> bool
-    ensures { λ r. ⌜ (r ≡ true → BothGiven (now (words .entry)) (now (words .exit)) (now (bytes .entry)) (now (bytes .exit))) ⌝ }
+// Whether no more values are given than there are in all, and all have room.
+fn has_room(given: u64, all: u64, room: usize) -> bool
+    ensures { λ r. ⌜ (r ≡ true → (given ≤ all) × (all ≤ room)) ⌝ }
 {
-    let Got::All = read_words(fd, words, nwords as usize) else {
+    if all < given {
+        return false;
+    }
+    if room < all as usize {
+        return false;
+    }
+    true
+}
+
+// Reads the words and the bytes that are given, where all have room.
+fn read_given(fd: i32, counts: &[u64; 4], words: &mut [u64], bytes: &mut [u8]) -> bool
+    ensures { λ r. ⌜ (r ≡ true → Begins (getD (now (counts .entry)) 1 0) (now (words .entry)) (now (words .exit)) × Begins (getD (now (counts .entry)) 3 0) (now (bytes .entry)) (now (bytes .exit))) ⌝ }
+{
+    if !has_room(counts[0], counts[1], words.len()) {
+        return false;
+    }
+    if !has_room(counts[2], counts[3], bytes.len()) {
+        return false;
+    }
+    let Got::All = read_words(fd, words, counts[0] as usize) else {
         return false;
     };
-    let Got::All = read_bytes(fd, bytes, nbytes as usize) else {
+    let Got::All = read_bytes(fd, bytes, counts[2] as usize) else {
         return false;
     };
     true
 }
 
-// Reads a bundle: the words given, the words with the zeros behind them, the bytes given, the bytes with the zeros behind them; then the words and the bytes given, to the start of the zeros lent.
+// Reads a bundle to the start of the zeros lent: the words given, the words with the zeros behind them, the bytes given, the bytes with the zeros behind them; then the words and the bytes given.
 pub fn read_bundle(fd: i32, words: &mut [u64], bytes: &mut [u8]) -> Read
     ensures { λ r. ⌜ BundleRead (now (words .entry)) (now (words .exit)) (now (bytes .entry)) (now (bytes .exit)) r ⌝ }
 {
@@ -130,7 +149,7 @@ pub fn read_bundle(fd: i32, words: &mut [u64], bytes: &mut [u8]) -> Read
         Got::Nothing => return Read::Nothing,
         Got::Less => return Read::Less,
     }
-    if !read_given(fd, counts[0], counts[2], words, bytes) {
+    if !read_given(fd, &counts, words, bytes) {
         return Read::Less;
     }
     Read::Is(Size {

@@ -24,12 +24,6 @@ enum-told-3 c = search needs
 returns-2 : tie.Need-returns-2
 returns-2 c = search needs
 
-array-read-read-given : tie.Need-array-read-read-given
-array-read-read-given c = search needs
-
-array-read-read-given-2 : tie.Need-array-read-read-given-2
-array-read-read-given-2 c = search needs
-
 read-given-requires : tie.Need-read-given-requires
 read-given-requires c κs = search needs
 
@@ -42,11 +36,11 @@ same-length-2 c = search needs
 returns-3 : tie.Need-returns-3
 returns-3 c = search needs
 
-array-read-t11 : tie.Need-array-read-t11
-array-read-t11 c = search needs
+array-read-t17 : tie.Need-array-read-t17
+array-read-t17 c = search needs
 
-array-read-t14 : tie.Need-array-read-t14
-array-read-t14 c = search needs
+array-read-t21 : tie.Need-array-read-t21
+array-read-t21 c = search needs
 
 same-length-3 : tie.Need-same-length-3
 same-length-3 c = search needs
@@ -68,14 +62,12 @@ read-bundle-spec =
     returns
     enum-told-3
     returns-2
-    array-read-read-given
-    array-read-read-given-2
     read-given-requires
     same-length
     same-length-2
     returns-3
-    array-read-t11
-    array-read-t14
+    array-read-t17
+    array-read-t21
     same-length-3
     same-length-4
     returns-4)
