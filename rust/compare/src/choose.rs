@@ -31,10 +31,9 @@ impl Choice {
 
     fn has_too_few(&self, shows: &Shows) -> bool {
         let enough = match shows {
-            Shows::Accepted => 10,
-            Shows::Broken(_) | Shows::Refused(..) => 5,
-            Shows::Lent(_) => 3,
-            Shows::Length(_) => 1,
+            Shows::Accepted => 5,
+            Shows::Broken(_) | Shows::Refused(..) => 3,
+            Shows::Lent(_) | Shows::Length(_) => 1,
         };
         self.counts.get(shows).is_none_or(|count| *count < enough)
     }
@@ -82,7 +81,7 @@ fn choose_noticing(candidates: &[Candidate], choice: &mut Choice) {
             1_000_000 * gain / candidate.size
         };
         let Some(best) = candidates.iter().max_by_key(worth) else { return };
-        best.notices.iter().for_each(|mutant| drop(unnoticed.remove(mutant)));
+        unnoticed.retain(|mutant| !best.notices.contains(mutant));
         choice.take(best);
     }
 }

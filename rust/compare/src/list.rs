@@ -15,6 +15,9 @@ use generate::simple;
 use generate::write::{self, Bundle, Layout};
 use generate::{case, Case};
 
+/// The lengths of chains that the list has to show. Others only take space.
+pub const LENGTHS: [u64; 5] = [0, 1, 2, 3, 16];
+
 /// What a case shows by a policy.
 #[derive(Clone, Copy, Debug, PartialEq, Eq, PartialOrd, Ord)]
 pub enum Shows {
@@ -23,7 +26,7 @@ pub enum Shows {
     Broken(u32),
     /// The bundle, 0 chain and 1 policy, and the number.
     Refused(u64, u64),
-    /// How many certificates a sound chain has.
+    /// How many certificates a sound chain has: a few, or as many as there may be.
     Length(u64),
     /// For a report with an entry at least.
     Lent(Room),
@@ -45,9 +48,8 @@ pub fn shown(which: Which, case: &Case) -> Vec<Shows> {
         1 => broken(which, case),
         number => vec![Shows::Refused(answer[1], number)],
     };
-    if answer[0] < 2 {
-        shown.push(Shows::Length(case.words[11]));
-    }
+    let sound_length = (answer[0] < 2).then(|| case.words[11]);
+    shown.extend(sound_length.filter(|length| LENGTHS.contains(length)).map(Shows::Length));
     shown
 }
 
@@ -64,7 +66,7 @@ fn broken(which: Which, case: &Case) -> Vec<Shows> {
     shown
 }
 
-/// The list: bundles as large as they may be and larger, and the chosen ones of the generated cases.
+/// The list: bundles without a word, as large as they may be and larger, and the chosen ones of the generated cases.
 pub fn cases() -> Vec<(Which, Case)> {
     let by_policy = [(Which::Openssl, chosen::OPENSSL), (Which::Chrome, chosen::CHROME)];
     let generated =
@@ -80,9 +82,13 @@ pub fn taken(which: Which, case: Case) -> (Which, Case) {
     }
 }
 
-/// A chain that both policies accept, each bundle once as long as it may be and once longer.
+/// A chain that both policies accept, each bundle once empty, once as long as it may be and once longer.
 fn sized() -> Vec<(Which, Case)> {
-    let sizes: [fn(&mut Bundle); 4] = [
+    let sizes: [fn(&mut Bundle); 5] = [
+        |bundle| {
+            bundle.words.clear();
+            bundle.bytes.clear();
+        },
         |bundle| bundle.words.resize(8192, 0),
         |bundle| bundle.words.resize(8193, 0),
         |bundle| bundle.bytes.resize(65536, 0),

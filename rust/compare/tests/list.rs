@@ -1,7 +1,7 @@
 //! The list that the program `replay` judges is small and leaves nothing out.
 
 use compare::judge::Which;
-use compare::list::{cases, file, shown, Room, Shows};
+use compare::list::{cases, file, shown, Room, Shows, LENGTHS};
 use std::collections::BTreeMap;
 
 /// How often each thing is shown by a policy.
@@ -25,7 +25,7 @@ fn every_rule_and_every_refusal_is_listed() {
         println!("{which:?}: {counts:?}");
         let chain = (2..=8).map(|number| Shows::Refused(0, number));
         for shows in own.into_iter().chain(chain).chain([Shows::Accepted]) {
-            assert!(counts.get(&shows).is_some_and(|count| *count >= 5), "{which:?}: {shows:?}");
+            assert!(counts.get(&shows).is_some_and(|count| *count >= 3), "{which:?}: {shows:?}");
         }
     }
 }
@@ -35,7 +35,7 @@ fn every_length_and_every_room_is_listed() {
     for which in [Which::Openssl, Which::Chrome] {
         let counts = counts(which);
         let rooms = (0..=6).map(Room::Few).chain([Room::Short, Room::Exact, Room::More]);
-        for shows in (0..=16).map(Shows::Length).chain(rooms.map(Shows::Lent)) {
+        for shows in LENGTHS.map(Shows::Length).into_iter().chain(rooms.map(Shows::Lent)) {
             assert!(counts.contains_key(&shows), "{which:?}: {shows:?}");
         }
     }
@@ -44,5 +44,5 @@ fn every_length_and_every_room_is_listed() {
 #[test]
 fn it_is_small() {
     let size = file().len();
-    assert!(size < 1_000_000, "{size} bytes");
+    assert!(size < 500_000, "{size} bytes");
 }
