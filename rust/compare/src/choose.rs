@@ -2,31 +2,36 @@
 //! too few of the chosen ones do.
 
 use crate::judge::{all_mutants, plain, Judge, Which};
-use crate::list::{in_file, shown, taken, Shows};
+use crate::list::{in_file, shown, sized, taken, Shows};
 use crate::{differs_by, outcome, CASES, SEED};
-use generate::case;
+use generate::{case, Case};
 use std::collections::{BTreeMap, BTreeSet};
 
 /// What the choice goes by.
-struct Candidate {
-    index: u64,
+struct Use {
     size: usize,
     shows: Vec<Shows>,
     /// The mutants that differ from the plain judge here.
-    notices: Vec<usize>,
+    notices: BTreeSet<usize>,
 }
 
 #[derive(Default)]
 struct Choice {
     indices: BTreeSet<u64>,
     counts: BTreeMap<Shows, usize>,
+    noticed: BTreeSet<usize>,
 }
 
 impl Choice {
-    fn take(&mut self, candidate: &Candidate) {
-        if self.indices.insert(candidate.index) {
-            candidate.shows.iter().for_each(|shows| *self.counts.entry(*shows).or_default() += 1);
+    fn take(&mut self, index: u64, of: &Use) {
+        if self.indices.insert(index) {
+            self.count(of);
         }
+    }
+
+    fn count(&mut self, of: &Use) {
+        of.shows.iter().for_each(|shows| *self.counts.entry(*shows).or_default() += 1);
+        self.noticed.extend(&of.notices);
     }
 
     fn has_too_few(&self, shows: &Shows) -> bool {
@@ -36,6 +41,11 @@ impl Choice {
             Shows::Lent(_) | Shows::Length(_) => 1,
         };
         self.counts.get(shows).is_none_or(|count| *count < enough)
+    }
+
+    /// How many mutants a case would notice that nothing notices yet, for its size.
+    fn worth(&self, of: &Use) -> usize {
+        1_000_000 * of.notices.difference(&self.noticed).count() / of.size
     }
 }
 
@@ -47,41 +57,38 @@ pub fn file() -> Option<String> {
     (!mutants.is_empty()).then(|| [head, &list("OPENSSL", Which::Openssl), &list("CHROME", Which::Chrome)].concat())
 }
 
-fn chosen(which: Which, mutants: &[Judge]) -> BTreeSet<u64> {
-    let mut candidates: Vec<Candidate> = (0..CASES).map(|index| candidate(which, index, mutants)).collect();
-    candidates.sort_by_key(|candidate| (candidate.size, candidate.index));
+fn chosen(which: Which, mutants: &[Judge]) -> Vec<u64> {
+    let use_of = |case: &Case| use_of(which, case, mutants);
     let mut choice = Choice::default();
+    sized().iter().filter(|(by, _)| *by == which).for_each(|(_, case)| choice.count(&use_of(case)));
+    let mut candidates: Vec<(u64, Use)> =
+        (0..CASES).map(|index| (index, use_of(&taken(which, case(SEED, index)).1))).collect();
+    candidates.sort_by_key(|(index, of)| (of.size, *index));
     choose_noticing(&candidates, &mut choice);
-    for candidate in &candidates {
-        if candidate.shows.iter().any(|shows| choice.has_too_few(shows)) {
-            choice.take(candidate);
+    for (index, of) in &candidates {
+        if of.shows.iter().any(|shows| choice.has_too_few(shows)) {
+            choice.take(*index, of);
         }
     }
-    choice.indices
+    choice.indices.into_iter().collect()
 }
 
-fn candidate(which: Which, index: u64, mutants: &[Judge]) -> Candidate {
-    let (_, case) = taken(which, case(SEED, index));
-    let expected = outcome(&plain(), which, &case);
-    let is_noticed = |at: &usize| differs_by(&mutants[*at], which, &case, &expected);
-    Candidate {
-        index,
-        size: in_file(which, &case).len(),
-        shows: shown(which, &case),
+fn use_of(which: Which, case: &Case, mutants: &[Judge]) -> Use {
+    let expected = outcome(&plain(), which, case);
+    let is_noticed = |at: &usize| differs_by(&mutants[*at], which, case, &expected);
+    Use {
+        size: in_file(which, case).len(),
+        shows: shown(which, case),
         notices: (0..mutants.len()).filter(is_noticed).collect(),
     }
 }
 
-/// Takes, again and again, the candidate that notices the most mutants for its size, of those that nothing notices yet.
-fn choose_noticing(candidates: &[Candidate], choice: &mut Choice) {
-    let mut unnoticed: BTreeSet<usize> = candidates.iter().flat_map(|candidate| &candidate.notices).copied().collect();
-    while !unnoticed.is_empty() {
-        let worth = |candidate: &&Candidate| {
-            let gain = candidate.notices.iter().filter(|mutant| unnoticed.contains(mutant)).count();
-            1_000_000 * gain / candidate.size
-        };
-        let Some(best) = candidates.iter().max_by_key(worth) else { return };
-        unnoticed.retain(|mutant| !best.notices.contains(mutant));
-        choice.take(best);
+/// Takes, again and again, the candidate that is worth most.
+fn choose_noticing(candidates: &[(u64, Use)], choice: &mut Choice) {
+    while let Some((index, of)) = candidates.iter().max_by_key(|(_, of)| choice.worth(of)) {
+        if choice.worth(of) == 0 {
+            return;
+        }
+        choice.take(*index, of);
     }
 }

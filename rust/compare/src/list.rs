@@ -83,7 +83,7 @@ pub fn taken(which: Which, case: Case) -> (Which, Case) {
 }
 
 /// A chain that both policies accept, each bundle once empty, once as long as it may be and once longer.
-fn sized() -> Vec<(Which, Case)> {
+pub fn sized() -> Vec<(Which, Case)> {
     let sizes: [fn(&mut Bundle); 5] = [
         |bundle| {
             bundle.words.clear();
