@@ -5,9 +5,9 @@ A case is a small change of one good chain bundle or of one good policy bundle, 
 second soundness check stands here too, written from document 01 and not from the crates. It must agree with every case,
 or no file is made.
 
-The file holds the cases one after the other: eight numbers, the words, the bytes. The numbers are: bundle (0 chain, 1
-policy), words given, zero words to append, bytes given, zero bytes to append, the refusal (0 for a sound bundle), the
-kind of its place (0 nothing, 1 word), that word. Numbers and words have eight bytes each, the low byte first."""
+The file holds the cases one after the other: the bundle (`listed`), and then four numbers: which bundle it is (0 chain, 1
+policy), the refusal (0 for a sound bundle), the kind of its place (0 nothing, 1 word), that word. Numbers and words have
+eight bytes each, the low byte first."""
 import struct
 from typing import NamedTuple
 
@@ -990,22 +990,29 @@ def cases():
 
 
 def without_zeros(values):
-    """Values without the zeros at their end, and how many those are."""
+    """Values without the zeros at their end."""
     kept = next((length for length in range(len(values), 0, -1) if values[length - 1] != 0), 0)
-    return values[:kept], len(values) - kept
+    return values[:kept]
 
 
-def packed(bundle, case):
-    words, zero_words = without_zeros(case.bundle.words)
-    data, zero_bytes = without_zeros(case.bundle.data)
-    place_kind = 0 if case.number == 0 else 1
-    numbers = (bundle, len(words), zero_words, len(data), zero_bytes, case.number, place_kind, case.word)
-    return struct.pack(f"<{len(numbers) + len(words)}Q", *numbers, *words) + data
+def listed(bundle):
+    """A bundle as it stands in the data file of a program: the words given, the words with the zeros behind them, the bytes
+    given, the bytes with the zeros behind them; then the words and the bytes given."""
+    words, data = without_zeros(bundle.words), without_zeros(bundle.data)
+    return numbers(len(words), len(bundle.words), len(data), len(bundle.data), *words) + data
+
+
+def numbers(*values):
+    return struct.pack(f"<{len(values)}Q", *values)
+
+
+def in_file(bundle, case):
+    return listed(case.bundle) + numbers(bundle, case.number, 0 if case.number == 0 else 1, case.word)
 
 
 def files():
     """Each path that this script writes, with what it writes there."""
-    return {"crates/bundle_list/data/bundles": b"".join(packed(bundle, case) for bundle, case in cases())}
+    return {"crates/bundle_list/data/bundles": b"".join(in_file(bundle, case) for bundle, case in cases())}
 
 
 def main():

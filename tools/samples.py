@@ -12,7 +12,7 @@ from typing import NamedTuple
 import bundles
 import packing
 import pem
-from bundles import A, C, DNS, G, L, R, S, U, Bundle
+from bundles import A, C, DNS, G, L, R, S, U, listed
 from packing import packed, ranges
 
 TOP = pathlib.Path(__file__).resolve().parent.parent
@@ -227,7 +227,7 @@ SAMPLES = (
 
 def pairs():
     """The samples as `witnesses` reads them."""
-    return b"".join(packed(CHAINS[sample.chain]) + packed(POLICIES[sample.policy]) for sample in SAMPLES)
+    return b"".join(listed(CHAINS[sample.chain]) + listed(POLICIES[sample.policy]) for sample in SAMPLES)
 
 
 def shown(judge, judged):

@@ -1,14 +1,12 @@
 // Replays the bundles of the file `bundles` through the soundness checks, and writes how many got the answer that the file names.
+//
+// The file is a row of bundles as `data_file` reads them, each with four numbers behind it: which bundle it is (0 chain, 1 policy), the refusal (0 for sound), the kind of its place (0 nothing, 1 word), the word.
 use data_file::Got;
+use data_file::Read;
 use libc::STDOUT_FILENO;
 use sound::Bundle;
 use sound::Checked;
 use sound::Place;
-
-// One more than a check takes, so that a bundle can be too large.
-const MOST_WORDS: u64 = 8193;
-
-const MOST_BYTES: u64 = 65537;
 
 // The answer to a bundle in numbers: the refusal (0 for sound), the bundle (0 chain, 1 policy), the kind of the place and its word.
 struct Answer {
@@ -18,22 +16,7 @@ struct Answer {
     word: u64,
 }
 
-// A case: how many words and bytes the file gives, how many there are with the zeros behind them, and the answer that is due.
-struct Case {
-    words: usize,
-    all_words: usize,
-    bytes: usize,
-    all_bytes: u64,
-    due: Answer,
-}
-
-enum Head {
-    Is(Case),
-    End,
-    Cut,
-}
-
-enum Reply {
+enum Due {
     Is(Answer),
     Cut,
 }
@@ -42,46 +25,6 @@ enum Turn {
     Agreed,
     Differed,
     End,
-}
-
-// ---- reading the file
-
-// The sum, or the most where that is less. The sum itself could wrap.
-fn sum_to(a: u64, b: u64, most: u64) -> u64 {
-    if most < a {
-        return most;
-    }
-    if most - a < b {
-        return most;
-    }
-    a + b
-}
-
-// The eight numbers before the words of a case.
-fn case_of(head: &[u64; 8]) -> Case {
-    let due = Answer {
-        number: head[5],
-        bundle: head[0],
-        kind: head[6],
-        word: head[7],
-    };
-    Case {
-        words: head[1] as usize,
-        all_words: sum_to(head[1], head[2], MOST_WORDS) as usize,
-        bytes: head[3] as usize,
-        all_bytes: sum_to(head[3], head[4], MOST_BYTES),
-        due: due,
-    }
-}
-
-fn read_head(fd: i32) -> Head {
-    let mut head = [0u64; 8];
-    let got = data_file::read_words(fd, &mut head, 8);
-    match got {
-        Got::All => Head::Is(case_of(&head)),
-        Got::Nothing => Head::End,
-        Got::Less => Head::Cut,
-    }
 }
 
 // ---- the answer of a check
@@ -195,10 +138,12 @@ fn print_difference(index: u64, due: Answer, got: Answer) {
     print(b"\n");
 }
 
-fn print_cut(index: u64) {
+// Says that the file ends inside a bundle, or names more than there is room for.
+fn cut_off(index: u64) -> Turn {
     print(b"bundle ");
     print_number(index);
     print(b" is cut off\n");
+    Turn::End
 }
 
 fn print_row(number: u64, chain: u64, policy: u64) {
@@ -267,40 +212,49 @@ fn compare(
     Turn::Agreed
 }
 
-fn read_and_check(fd: i32, case: Case) -> Reply {
+fn read_due(fd: i32) -> Due {
+    let mut due = [0u64; 4];
+    let Got::All = data_file::read_words(fd, &mut due, 4) else {
+        return Due::Cut;
+    };
+    Due::Is(Answer {
+        number: due[1],
+        bundle: due[0],
+        kind: due[2],
+        word: due[3],
+    })
+}
+
+fn replay(
+    fd: i32,
+    index: u64,
+    words: &[u64],
+    bytes: &[u8],
+    chain: &mut [u64; 9],
+    policy: &mut [u64; 9],
+) -> Turn {
+    let Due::Is(due) = read_due(fd) else {
+        return cut_off(index);
+    };
+    compare(index, due, check(due.bundle, words, bytes), chain, policy)
+}
+
+// The arrays have one word and one byte more than a check takes, so that a bundle can be too large.
+fn replay_next(fd: i32, index: u64, chain: &mut [u64; 9], policy: &mut [u64; 9]) -> Turn {
     let mut words = [0u64; 8193];
     let mut bytes = [0u8; 65537];
-    let Got::All = data_file::read_words(fd, &mut words, case.words) else {
-        return Reply::Cut;
-    };
-    let Got::All = data_file::read_bytes(fd, &mut bytes, case.bytes) else {
-        return Reply::Cut;
-    };
-    let all_words = data_file::words_to(&words, case.all_words);
-    let all_bytes = table::cut(&bytes, 0, case.all_bytes);
-    Reply::Is(check(case.due.bundle, all_words, all_bytes))
-}
-
-fn replay(fd: i32, index: u64, case: Case, chain: &mut [u64; 9], policy: &mut [u64; 9]) -> Turn {
-    let reply = read_and_check(fd, case);
-    match reply {
-        Reply::Is(got) => compare(index, case.due, got, chain, policy),
-        Reply::Cut => {
-            print_cut(index);
-            Turn::End
-        }
-    }
-}
-
-fn replay_next(fd: i32, index: u64, chain: &mut [u64; 9], policy: &mut [u64; 9]) -> Turn {
-    let head = read_head(fd);
-    match head {
-        Head::Is(case) => replay(fd, index, case, chain, policy),
-        Head::End => Turn::End,
-        Head::Cut => {
-            print_cut(index);
-            Turn::End
-        }
+    let read = data_file::read_bundle(fd, &mut words, &mut bytes);
+    match read {
+        Read::Is(size) => replay(
+            fd,
+            index,
+            data_file::words_to(&words, size.words),
+            table::cut(&bytes, 0, size.bytes as u64),
+            chain,
+            policy,
+        ),
+        Read::Nothing => Turn::End,
+        Read::Less => cut_off(index),
     }
 }
 

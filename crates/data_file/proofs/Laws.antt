@@ -1,11 +1,11 @@
 -- Eight bytes as a number, and reads with and without room. Assumes nothing.
-use Prim.Native.Nat.{ℕ, suc, _+_, _*_, _≤_, _<_}
+use Prim.Native.Nat.{ℕ, suc, _+_, _-_, _*_, _≤_, _<_}
 use native.Mathlib.Omega.{arith}
-use mathlib.Core.Path.{_≡_, refl, sym, _∙_}
+use mathlib.Core.Path.{_≡_, refl, sym, ap, subst, _∙_}
 use mathlib.Core.List.{List, _++_}
 use lib.ListN.{length, getD, take, drop, length-append, length-drop, drop-of-length-le}
-use lib.Seq.{drop-cons, drop-at, take-all}
-use Rattle.data_file.specs.DataFile.{wordOf, Filled}
+use lib.Seq.{drop-cons, drop-at, drop-drop, take-all}
+use Rattle.data_file.specs.DataFile.{wordOf, Filled, Begins}
 use Rattle.data_file.specs.declared.Got.{Got}
 use Rattle.data_file.specs.declared.Got.the-variants.{All, Less}
 
@@ -49,3 +49,9 @@ module _ (n : ℕ) (old front : List ℕ) (l : n ≤ length old) (e : length (fr
 
 pub whole : (n : ℕ) (l : List ℕ) → length l ≤ n → l ≡ take n l
 whole n l h = sym (take-all n l h)
+
+-- what stands behind more values stays too
+pub begins : {k : ℕ} (n : ℕ) {old new : List ℕ} {got : Got} → Filled k old new got → k ≤ n → n ≤ length old → Begins n old new
+begins {k = k} n {old = old} {new = new} f h l =
+    let all : k + (n - k) ≡ n = omega arith in
+    (l, subst (λ (m : ℕ). drop m new ≡ drop m old) all (sym (drop-drop (n - k) k new) ∙ ap (drop (n - k)) (f .rest-stays) ∙ drop-drop (n - k) k old))

@@ -1,47 +1,15 @@
 // Judges the chains of the file `samples` through the C boundary's functions, and writes each answer and report.
 //
-// The file is a row of pairs: the bundle of a chain, and the bundle of the policy by which Chrome's judge takes it. A bundle is the count of its words, the count of its bytes, the words, the bytes.
-use data_file::Got;
+// The file is a row of pairs of bundles as `data_file` reads them: a chain, and the policy by which Chrome's judge takes it.
+use data_file::Read;
 use libc::STDOUT_FILENO;
 
 // What stands in the lent report before a judgement, so that the output shows which words were written.
 const UNWRITTEN: u32 = 9;
 
-// How long a bundle is.
-struct Size {
-    words: usize,
-    bytes: usize,
-}
-
-enum Bundle {
-    Is(Size),
-    End,
-}
-
 enum Turn {
     Judged,
     End,
-}
-
-// ---- reading the file
-
-// Reads a bundle to the start of the words and bytes lent.
-fn read_bundle(fd: i32, words: &mut [u64], bytes: &mut [u8]) -> Bundle {
-    let mut counts = [0u64; 2];
-    let Got::All = data_file::read_words(fd, &mut counts, 2) else {
-        return Bundle::End;
-    };
-    let size = Size {
-        words: counts[0] as usize,
-        bytes: counts[1] as usize,
-    };
-    let Got::All = data_file::read_words(fd, words, size.words) else {
-        return Bundle::End;
-    };
-    let Got::All = data_file::read_bytes(fd, bytes, size.bytes) else {
-        return Bundle::End;
-    };
-    Bundle::Is(size)
 }
 
 // ---- writing
@@ -112,12 +80,12 @@ fn judge(words: &[u64], bytes: &[u8], pwords: &[u64], pbytes: &[u8]) {
 fn judge_next(fd: i32) -> Turn {
     let mut words = [0u64; 8192];
     let mut bytes = [0u8; 65536];
-    let Bundle::Is(chain) = read_bundle(fd, &mut words, &mut bytes) else {
+    let Read::Is(chain) = data_file::read_bundle(fd, &mut words, &mut bytes) else {
         return Turn::End;
     };
     let mut pwords = [0u64; 8192];
     let mut pbytes = [0u8; 65536];
-    let Bundle::Is(policy) = read_bundle(fd, &mut pwords, &mut pbytes) else {
+    let Read::Is(policy) = data_file::read_bundle(fd, &mut pwords, &mut pbytes) else {
         return Turn::End;
     };
     judge(

@@ -6,7 +6,7 @@ type Openssl = fn(&[u64], &[u8], &mut [u32]) -> [u64; 8];
 type Chrome = fn(&[u64], &[u8], &[u64], &[u8], &mut [u32]) -> [u64; 8];
 
 /// The policy by which a chain is judged.
-#[derive(Clone, Copy, Debug)]
+#[derive(Clone, Copy, Debug, PartialEq, Eq, PartialOrd, Ord)]
 pub enum Which {
     Openssl,
     Chrome,

@@ -1,6 +1,9 @@
 //! Two judges side by side: all eight answer words, and every word of the report with guards on both sides.
 
+pub mod choose;
+pub mod chosen;
 pub mod judge;
+pub mod list;
 pub mod statistics;
 
 use generate::{case, Case};
@@ -78,8 +81,12 @@ pub fn differing_cases(right: &Judge, others: &[Judge], seed: u64, cases: u64) -
 }
 
 fn differs(other: &Judge, case: &Case, expected: &[Outcome; 2]) -> bool {
-    let agrees = std::panic::catch_unwind(|| {
-        outcome(other, Which::Openssl, case) == expected[0] && outcome(other, Which::Chrome, case) == expected[1]
-    });
+    let [openssl, chrome] = expected;
+    differs_by(other, Which::Openssl, case, openssl) || differs_by(other, Which::Chrome, case, chrome)
+}
+
+/// Whether a judge does something else with a case than what is expected. One that panics does.
+pub fn differs_by(other: &Judge, which: Which, case: &Case, expected: &Outcome) -> bool {
+    let agrees = std::panic::catch_unwind(|| outcome(other, which, case) == *expected);
     !agrees.unwrap_or(false)
 }

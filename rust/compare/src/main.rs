@@ -1,12 +1,15 @@
 //! compare <judge> <judge> [cases] [seed]: stops at the first difference.
 //! compare statistics [cases] [seed]: what the generated cases are like.
 //! compare mutants [cases] [seed]: in how many cases each mutant is noticed.
+//! compare list: the list of cases that the program `replay` reads, as a file; compare listed: what it has to write.
+//! compare choose: the choice of generated cases for that list, as the source file `chosen.rs`; with the mutants.
 //!
 //! A judge is `plain`, or `library` or a mutant's number where the features of these names are on.
 
 use compare::judge::{all_mutants, named, plain, Judge, Which};
 use compare::statistics::tally;
-use compare::{differing_cases, first_difference, CASES, SEED};
+use compare::{choose, differing_cases, first_difference, list, CASES, SEED};
+use std::io::Write;
 use std::process::ExitCode;
 
 fn main() -> ExitCode {
@@ -15,6 +18,9 @@ fn main() -> ExitCode {
     match words.as_slice() {
         ["statistics", rest @ ..] => statistics(numbers(rest)),
         ["mutants", rest @ ..] => mutants(numbers(rest)),
+        ["list"] => written(&list::file()),
+        ["listed"] => written(list::output().as_bytes()),
+        ["choose"] => choose(),
         [one, other, rest @ ..] => match (named(one), named(other)) {
             (Some(one), Some(other)) => pair(&one, &other, numbers(rest)),
             _ => usage(),
@@ -24,7 +30,7 @@ fn main() -> ExitCode {
 }
 
 fn usage() -> ExitCode {
-    eprintln!("compare statistics | mutants | <judge> <judge>, then [cases] [seed]");
+    eprintln!("compare statistics | mutants | <judge> <judge>, then [cases] [seed]; list | listed | choose");
     eprintln!("a judge is plain, library or a mutant's number");
     ExitCode::from(2)
 }
@@ -54,6 +60,24 @@ fn mutants((cases, seed): (u64, u64)) -> ExitCode {
     let missed = counts.iter().filter(|count| **count == 0).count();
     println!("{} mutants, {missed} not noticed in {cases} cases, seed {seed}", mutants.len());
     ExitCode::from(u8::from(missed > 0))
+}
+
+fn choose() -> ExitCode {
+    std::panic::set_hook(Box::new(|_| {}));
+    match choose::file() {
+        Some(file) => written(file.as_bytes()),
+        None => usage(),
+    }
+}
+
+fn written(file: &[u8]) -> ExitCode {
+    match std::io::stdout().write_all(file) {
+        Ok(()) => ExitCode::SUCCESS,
+        Err(error) => {
+            eprintln!("the file can't be written: {error}");
+            ExitCode::FAILURE
+        }
+    }
 }
 
 fn pair(one: &Judge, other: &Judge, (cases, seed): (u64, u64)) -> ExitCode {

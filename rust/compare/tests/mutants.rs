@@ -1,8 +1,8 @@
 //! Every mutant is told from the plain judge: if one isn't, the generator is at fault.
 #![cfg(feature = "mutants")]
 
-use compare::judge::{all_mutants, plain};
-use compare::{differing_cases, CASES, SEED};
+use compare::judge::{all_mutants, plain, Judge};
+use compare::{differing_cases, differs_by, list, outcome, CASES, SEED};
 
 #[test]
 fn every_mutant_is_noticed() {
@@ -18,4 +18,17 @@ fn every_mutant_is_noticed() {
         }
     }
     assert!(mutants.len() >= 60 && missed.is_empty(), "of {} not noticed: {missed:#?}", mutants.len());
+}
+
+#[test]
+fn every_mutant_is_noticed_by_the_list() {
+    std::panic::set_hook(Box::new(|_| {}));
+    let cases = list::cases();
+    let expected: Vec<_> = cases.iter().map(|(which, case)| outcome(&plain(), *which, case)).collect();
+    let is_missed = |mutant: &&Judge| {
+        cases.iter().zip(&expected).all(|((which, case), expected)| !differs_by(mutant, *which, case, expected))
+    };
+    let mutants = all_mutants();
+    let missed: Vec<&String> = mutants.iter().filter(is_missed).map(|mutant| &mutant.name).collect();
+    assert!(missed.is_empty(), "of {} not noticed: {missed:#?}", mutants.len());
 }
