@@ -258,16 +258,29 @@ def write_rule(crate):
 
 
 def breaks(crate, row):
-    """Whether a rule is broken at a spot: nowhere, at one certificate, between two."""
+    """Whether a rule is broken at a spot: nowhere, at one certificate, which is a run of one, between two."""
     test = row["opens"]
-    needs = ["enum-told", "enum-known-spot", "breaks-at-requires", "enum-known-spot-2", "breaks-between-requires"]
+    one = f"{back(0)} .breaks-within .ensures ∙ at-one _ _ _ _ _"
     answers = {
-        **{need: "search needs" for need in needs},
+        "enum-told": "search needs",
+        "enum-known-spot": "search needs",
+        "cast-at": "search needs",
+        "add-breaks-within": "omega arith",
+        "breaks-within-requires": "omega arith",
+        "enum-known-spot-2": "search needs",
+        "breaks-between-requires": "search needs",
         "returns": (test, "rw (c .enum-told .given .1)"),
-        "returns-2": (test, "rw (c .before .before .spot .given .1) (c .breaks-at .ensures)"),
+        "returns-2": (test, f"rw ({back(3)} .spot .given .1) ({one})"),
         "returns-3": (test, "rw (c .before .before .spot2 .given .1) (c .breaks-between .ensures)"),
     }
-    return proof(crate, "breaks", "Each kind of spot has its table.", ["borrow.Author.Needs.{needs}", some(row["specs"], [test])], answers)
+    uses = [
+        "native.Mathlib.Omega.{arith}",
+        "mathlib.Core.Path.{_∙_}",
+        "borrow.Author.Needs.{needs}",
+        some(row["specs"], [test]),
+        f"Rattle.{crate}.proofs.Laws.{{at-one}}",
+    ]
+    return proof(crate, "breaks", "Each kind of spot has its table.", uses, answers)
 
 
 def write_one(crate):

@@ -1,14 +1,16 @@
 -- What holds of the tables of every policy. Assumes nothing.
-use Prim.Native.Nat.{ℕ, _≤_}
+use Prim.Native.Nat.{ℕ, _+_, _≤_}
 use native.Mathlib.Omega.{arith}
 use mathlib.Core.Path.{_≡_, refl, ap}
 use mathlib.Core.Logic.{inl, inr}
-use mathlib.Core.Bool.{Bool, true, false, not, _&&_, false≢true}
+use mathlib.Core.Bool.{Bool, true, false, not, _&&_, or-false, false≢true}
 use mathlib.Core.List.{List}
 use mathlib.Core.Option.{Option, none, some}
 use lib.Dec.{eqb}
 use borrow.Author.Tests.{eqb-true}
+use Rattle.laws.specs.Lists.{any, rows}
 use Rattle.laws.specs.Optional.{isThere}
+use Rattle.laws.proofs.Rows.{rows-step, rows-end}
 use Rattle.laws.proofs.Tests.{and-left, and-right}
 use Rattle.model.specs.Model.{Cert, Chain, Lists}
 use Rattle.model.specs.Decode.{unlessZero, certWord, ncAt, chainOf}
@@ -16,12 +18,12 @@ use Rattle.model.proofs.Optional.{there-is}
 use Rattle.constraints.specs.Keeps.{keepsConstraints}
 use Rattle.constrained_o.specs.Rule14.{checkNameConstraints as checkNameConstraintsO}
 use Rattle.constrained_c.specs.Rule14.{checkNameConstraints as checkNameConstraintsC}
-use Rattle.faults.specs.Report.{pair}
+use Rattle.faults.specs.Report.{certificate, pair}
 use Rattle.faults.specs.Order.{NoneFrom}
 use Rattle.faults.specs.Places.{when}
 use Rattle.faults.specs.Count.{sum, isSingle, isPairs, singleRules, pairRules}
 use Rattle.faults.specs.declared.Places.the-variants.{Nowhere}
-use Rattle.rules.specs.Rules.{constraintsHold, holdsBetween, brokenBetween, broken, asksNothing, openSslPlaces, chromePlaces, placesOf, rules}
+use Rattle.rules.specs.Rules.{constraintsHold, holdsBetween, brokenAt, brokenBetween, broken, asksNothing, openSslPlaces, chromePlaces, placesOf, rules}
 use Rattle.rules.specs.declared.Policy.{Policy}
 use Rattle.rules.specs.declared.Policy.the-variants.{OpenSsl, Chrome}
 use Rattle.rules.proofs.Besides.{not-openssl, not-chrome}
@@ -48,6 +50,11 @@ pub one-of-pairs : (p : Policy) → pairRules (placesOf p) rules ≤ 1
 unfolding pairRules sum isPairs placesOf openSslPlaces chromePlaces when
 one-of-pairs OpenSsl = omega arith
 one-of-pairs Chrome = omega arith
+
+-- A run of one certificate.
+pub at-one : (p : Policy) (c : Chain) (l : Lists) (r i : ℕ) → any (broken p c l r) (rows certificate i (i + 1)) ≡ brokenAt p c l r i
+unfolding any broken
+at-one p c l r i = rw (rows-step certificate i (i + 1) (omega arith), rows-end certificate (i + 1) (i + 1) (omega arith)) (or-false (brokenAt p c l r i))
 
 -- ---- where rule 14 asks nothing
 twice : (t : Bool) → t ≡ not (not t)

@@ -1,6 +1,9 @@
 // The tables of rules: which rule holds where, and where each policy asks it.
 ghost use mathlib.Core.Path.{_≡_};
+ghost use Prim.Native.Nat.{_≤_};
+ghost use Rattle.laws.specs.Lists.{any, rows};
 ghost use Rattle.model.specs.Decode.{taskOf, certAt, chainOf, listsOf};
+ghost use Rattle.faults.specs.Report.{certificate};
 ghost use Rattle.fields.specs.KeyLevel.{checkCertKeyLevel};
 ghost use Rattle.rules.specs.Rules.{leastBits, dsaAllowed, purposeHolds, constraintsHold, hostHolds, holdsAt, holdsBetween, isRoot, brokenAt, brokenBetween, asksNothing, brokenIn, openSslPlaces, chromePlaces, placesOf};
 use faults::Places;
@@ -210,6 +213,56 @@ fn breaks_at(
     )
 }
 
+// Whether a rule is broken at some certificate from one up to, and without, another. The loop stands next to the table, since most rules are asked of every certificate.
+fn breaks_within(
+    policy: Policy,
+    rule: RuleNo,
+    from: u64,
+    to: u64,
+    words: &[u64],
+    bytes: &[u8],
+    pwords: &[u64],
+    pbytes: &[u8],
+) -> bool
+    requires { ⌜ to ≤ 4294967296 ⌝ }
+    ensures { λ r. ⌜ r ≡ any (brokenIn policy (now (words .entry)) (now (bytes .entry)) (now (pwords .entry)) (now (pbytes .entry)) (rule .0)) (rows certificate from to) ⌝ }
+{
+    let mut i = from;
+    while i < to {
+        let at = i as u32;
+        if breaks_at(policy, rule, CertPos(at), words, bytes, pwords, pbytes) {
+            return true;
+        }
+        i += 1;
+    }
+    false
+}
+
+// The same for positions.
+pub fn any_breaks(
+    policy: Policy,
+    rule: RuleNo,
+    from: CertPos,
+    to: u32,
+    words: &[u64],
+    bytes: &[u8],
+    pwords: &[u64],
+    pbytes: &[u8],
+) -> bool
+    ensures { λ r. ⌜ r ≡ any (brokenIn policy (now (words .entry)) (now (bytes .entry)) (now (pwords .entry)) (now (pbytes .entry)) (rule .0)) (rows certificate (from .0) to) ⌝ }
+{
+    breaks_within(
+        policy,
+        rule,
+        from.0 as u64,
+        to as u64,
+        words,
+        bytes,
+        pwords,
+        pbytes,
+    )
+}
+
 // Whether a rule is broken between two.
 fn breaks_between(
     policy: Policy,
@@ -250,7 +303,10 @@ pub fn breaks(
 {
     match spot {
         Spot::Nothing => false,
-        Spot::Certificate(i) => breaks_at(policy, rule, i, words, bytes, pwords, pbytes),
+        Spot::Certificate(i) => {
+            let at = i.0 as u64;
+            breaks_within(policy, rule, at, at + 1, words, bytes, pwords, pbytes)
+        }
         Spot::Pair(i, j) => breaks_between(policy, rule, i, j, words, bytes, pwords, pbytes),
     }
 }

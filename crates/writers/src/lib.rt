@@ -1,8 +1,7 @@
 // The writers of the report: each lends the tail of the report, from its first free word on, to the next.
 ghost use mathlib.Core.Path.{_≡_};
 ghost use Prim.Native.Nat.{_+_, _-_};
-ghost use Rattle.laws.specs.Lists.{any, rows};
-ghost use Rattle.faults.specs.Report.{certificate, Wrote};
+ghost use Rattle.faults.specs.Report.{Wrote};
 ghost use Rattle.faults.specs.Order.{Reported};
 ghost use Rattle.faults.specs.Index.{asked, each, neighbours, row, pairs, entriesAt, index};
 ghost use Rattle.rules.specs.Rules.{brokenIn, placesOf, rules, short};
@@ -73,38 +72,7 @@ fn write_each(
     tally
 }
 
-// Whether some certificate from one up to, and without, another breaks a rule. Most rules are broken nowhere, and then nothing more is done.
-fn any_breaks(
-    policy: Policy,
-    rule: RuleNo,
-    from: CertPos,
-    to: u32,
-    words: &[u64],
-    bytes: &[u8],
-    pwords: &[u64],
-    pbytes: &[u8],
-) -> bool
-    ensures { λ r. ⌜ r ≡ any (brokenIn policy (now (words .entry)) (now (bytes .entry)) (now (pwords .entry)) (now (pbytes .entry)) (rule .0)) (rows certificate (from .0) to) ⌝ }
-{
-    let mut i = from.0;
-    while i < to {
-        if rules::breaks(
-            policy,
-            rule,
-            Spot::Certificate(CertPos(i)),
-            words,
-            bytes,
-            pwords,
-            pbytes,
-        ) {
-            return true;
-        }
-        i += 1;
-    }
-    false
-}
-
-// The same as `write_each`, but nothing is lent where no certificate breaks the rule.
+// The same as `write_each`. Most rules are broken nowhere, and then nothing is lent.
 fn write_each_broken(
     policy: Policy,
     rule: RuleNo,
@@ -118,7 +86,7 @@ fn write_each_broken(
 ) -> Tally
     ensures { λ t. ⌜ Wrote (each (brokenIn policy (now (words .entry)) (now (bytes .entry)) (now (pwords .entry)) (now (pbytes .entry))) (rule .0) (from .0) (to - from .0)) (now (report .entry)) (now (report .exit)) t ⌝ }
 {
-    if any_breaks(policy, rule, from, to, words, bytes, pwords, pbytes) {
+    if rules::any_breaks(policy, rule, from, to, words, bytes, pwords, pbytes) {
         return write_each(policy, rule, from, to, words, bytes, pwords, pbytes, report);
     }
     NONE_YET

@@ -1,6 +1,9 @@
 -- Each kind of spot has its table. Written by tools/reports.py. Assumes nothing.
+use native.Mathlib.Omega.{arith}
+use mathlib.Core.Path.{_∙_}
 use borrow.Author.Needs.{needs}
 use Rattle.rules.specs.Rules.{broken}
+use Rattle.rules.proofs.Laws.{at-one}
 use Rattle.rules.proofs.breaks.Statement.{statement}
 use Rattle.rules.proofs.breaks.Tie as tie
 
@@ -10,8 +13,14 @@ enum-told c = search needs
 enum-known-spot : tie.Need-enum-known-spot
 enum-known-spot c = search needs
 
-breaks-at-requires : tie.Need-breaks-at-requires
-breaks-at-requires c κs = search needs
+cast-at : tie.Need-cast-at
+cast-at c = search needs
+
+add-breaks-within : tie.Need-add-breaks-within
+add-breaks-within c = omega arith
+
+breaks-within-requires : tie.Need-breaks-within-requires
+breaks-within-requires c κs = omega arith
 
 enum-known-spot-2 : tie.Need-enum-known-spot-2
 enum-known-spot-2 c = search needs
@@ -25,7 +34,7 @@ returns c = rw (c .enum-told .given .1)
 
 returns-2 : tie.Need-returns-2
 unfolding broken
-returns-2 c = rw (c .before .before .spot .given .1) (c .breaks-at .ensures)
+returns-2 c = rw (c .before .before .before .spot .given .1) (c .breaks-within .ensures ∙ at-one _ _ _ _ _)
 
 returns-3 : tie.Need-returns-3
 unfolding broken
@@ -37,7 +46,9 @@ breaks-spec =
     (tie.spec
     enum-told
     enum-known-spot
-    breaks-at-requires
+    cast-at
+    add-breaks-within
+    breaks-within-requires
     enum-known-spot-2
     breaks-between-requires
     returns
