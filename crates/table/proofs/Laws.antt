@@ -1,7 +1,7 @@
 -- Reads past the end: a word is 0 and a part is cut off. Assumes nothing.
 use Prim.Native.Nat.{ℕ, _+_, _-_, _*_, _/_, _≤_, _<_, min}
 use native.Mathlib.Omega.{arith}
-use native.Mathlib.Nat.{add-sub-cancel-left, div-lt-iff-lt-mul, le-div-iff-mul-le, zero-mul, add-zero}
+use native.Mathlib.Nat.{add-sub-cancel-left, div-lt-iff-lt-mul, le-div-iff-mul-le, mul-le-mul, zero-mul, add-zero}
 use mathlib.Core.Path.{_≡_, refl, sym, _∙_}
 use mathlib.Core.List.{List, []}
 use lib.ListN.{length, take, drop, length-drop, drop-of-length-le, List·getD-eq-default}
@@ -34,6 +34,10 @@ module _ (size at n total : ℕ) (s : size ≡ 0 → ⊥) (l : at ≤ total) whe
 
   pub ends-inside : n ≤ (total - at) / size → at + size * n ≤ total
   ends-inside h = omega (arith, le-div-iff-mul-le {k = size} {x = n} {y = total - at} (omega arith) .0 h)
+
+-- the product of two short numbers fits 64 bits
+pub short-product : (a b : ℕ) → a < 4294967296 → b < 4294967296 → a * b < 18446744073709551616
+short-product a b h k = let m : a * b ≤ 4294967295 * 4294967295 = mul-le-mul {n₁ = a} {m₁ = b} {n₂ = 4294967295} {m₂ = 4294967295} (omega arith) (omega arith) in omega arith
 
 -- ---- a field; `at` is where the section begins
 module _ (w : List ℕ) (s : Section) (n j : ℕ) {at : ℕ} (e : at ≡ offsetOf w s) where

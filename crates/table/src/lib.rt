@@ -25,6 +25,9 @@ pub struct Range {
 
 pub const STRINGS: Section = Section { count: 1, size: 2 };
 
+// Numbers below it have a product that fits 64 bits.
+const SHORT: u64 = 4294967296;
+
 // The word at a place, or 0 past the end.
 pub fn word(words: &[u64], at: usize) -> u64
     ensures { λ r. ⌜ r ≡ wordOf (now (words .entry)) at ⌝ }
@@ -67,8 +70,8 @@ pub fn offset(words: &[u64], s: Section) -> u64
     0
 }
 
-// Word j of row n of a section, or 0 where that lies past the end. No sum wraps: each is tested before it is made.
-pub fn field(words: &[u64], s: Section, n: u64, j: u64) -> u64
+// Word j of row n of a section, or 0 where that lies past the end, for numbers of any size. No sum wraps: each is tested before it is made.
+fn far_field(words: &[u64], s: Section, n: u64, j: u64) -> u64
     ensures { λ r. ⌜ r ≡ fieldOf (now (words .entry)) s n j ⌝ }
 {
     let total = words.len() as u64;
@@ -87,6 +90,33 @@ pub fn field(words: &[u64], s: Section, n: u64, j: u64) -> u64
         return 0;
     }
     word(words, (at + size * n + j) as usize)
+}
+
+// The same. Nearly all numbers of rows are short, and then nothing has to be divided.
+pub fn field(words: &[u64], s: Section, n: u64, j: u64) -> u64
+    ensures { λ r. ⌜ r ≡ fieldOf (now (words .entry)) s n j ⌝ }
+{
+    let size = s.size;
+    if SHORT <= n {
+        return far_field(words, s, n, j);
+    }
+    if SHORT <= size {
+        return far_field(words, s, n, j);
+    }
+    let total = words.len() as u64;
+    let at = offset(words, s);
+    if total <= at {
+        return 0;
+    }
+    let room = total - at;
+    let row = size * n;
+    if room <= row {
+        return 0;
+    }
+    if room - row <= j {
+        return 0;
+    }
+    words[(at + row + j) as usize]
 }
 
 // A string, as a part of the bytes.
