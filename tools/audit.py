@@ -28,7 +28,7 @@ NUMBERS = {
     "certs::cert_range": {"j": "the place of a word in a row"},
     "certs::signed": {"word": "a word of a bundle"},
     "fields::key_level::check_cert_key_level": {"least": "a count of bits"},
-    "roots::calendar::Calendar::span_valid": {"begin": "a date", "end": "a date"},
+    "calendar::Calendar::span_valid": {"begin": "a date", "end": "a date"},
     "view::word": {"j": "the place of a word in a row"},
     "view::some_word": {"j": "the place of a word in a row", "x": "a word of a bundle"},
     "row_tests::no_string": {"p": "the place of a word"},
@@ -42,6 +42,7 @@ NUMBERS = {
     "data_file::read_words": {"n": "a count of words"},
     "data_file::read_bytes": {"n": "a count of bytes"},
     "data_file::words_to": {"n": "a count of words"},
+    "rules::any_breaks": {"to": "a count of certificates"},
     "writers::write_report": {"n": "a count of certificates"},
     "faults::without": {"n": "a count of certificates", "k": "a count of certificates"},
 }

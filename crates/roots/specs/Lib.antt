@@ -1,4 +1,3 @@
-pub mod Calendar
 pub mod Duration
 pub mod Fingerprints
 pub mod Stated

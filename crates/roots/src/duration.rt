@@ -2,7 +2,7 @@
 ghost use mathlib.Core.Path.{_≡_};
 ghost use Rattle.model.specs.Decode.{certAt, listsOf};
 ghost use Rattle.roots.specs.Duration.{isKnownRoot, leafDurationValid, durationHolds};
-use crate::calendar::Calendar;
+use calendar::Calendar;
 use certs::cert_word;
 use model::chain::CertRow;
 

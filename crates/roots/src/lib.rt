@@ -1,5 +1,4 @@
-// Rules 17 to 20: what Chrome's calendar and the lists of a policy say of a certificate. A module a rule or two.
-pub mod calendar;
+// Rules 17 to 20: what Chrome's calendar and the lists of a policy say of certificates. A module a rule or two.
 pub mod duration;
 pub mod fingerprints;
 pub mod symantec;

@@ -7,7 +7,7 @@ use Rattle.text.specs.Bytes.{lowerByte}
 use Rattle.text.specs.Texts.{Text, quoted, lowered, startsWith, endsWith, covers}
 use Rattle.patterns.specs.Address.{maskedEqual, agreesAt, inRange, ipAddrInRange}
 use Rattle.patterns.specs.Patterns.{matchName, oneLabel, finalDotOff, cleanName, permitName}
-use Rattle.roots.specs.Calendar.{spanValid}
+use Rattle.calendar.specs.Spans.{spanValid}
 use Rattle.patterns.proofs.Ranges.{other-lengths}
 use Rattle.sans.specs.Sans.{isKind, dnsAnd}
 use Rattle.covering.specs.Covers.{dnsCovers, overDns}

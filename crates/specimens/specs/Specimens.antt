@@ -7,7 +7,7 @@ use lib.ListN.{length}
 use Rattle.text.specs.Texts.{Text, quoted, covers}
 use Rattle.patterns.specs.Address.{ipAddrInRange}
 use Rattle.patterns.specs.Patterns.{matchName, cleanName}
-use Rattle.roots.specs.Calendar.{spanValid}
+use Rattle.calendar.specs.Spans.{spanValid}
 use Rattle.model.specs.Model.{dns, noMark, San}
 use Rattle.covering.specs.declared.dns.Covering.the-variants.{Cleaned}
 use Rattle.constraints.specs.Keeps.{checkSanConstraints}

@@ -1,6 +1,6 @@
 // Chrome's calendar.
 ghost use mathlib.Core.Path.{_≡_};
-ghost use Rattle.roots.specs.Calendar.{spanValid};
+ghost use Rattle.calendar.specs.Spans.{spanValid};
 
 // How long a leaf may last, by the second in which it begins.
 pub struct Calendar;

@@ -1,8 +1,8 @@
 use borrow.Author.Tests.{le-leb, lt-leb}
 use mathlib.Core.Path.{refl}
-use Rattle.roots.specs.Calendar.{spanValid}
-use Rattle.roots.proofs.calendar.Calendar.span_valid.Statement.{statement}
-use Rattle.roots.proofs.calendar.Calendar.span_valid.Tie as tie
+use Rattle.calendar.specs.Spans.{spanValid}
+use Rattle.calendar.proofs.Calendar.span_valid.Statement.{statement}
+use Rattle.calendar.proofs.Calendar.span_valid.Tie as tie
 
 returns : tie.Need-returns
 unfolding spanValid
