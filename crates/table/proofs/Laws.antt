@@ -1,7 +1,7 @@
 -- Reads past the end: a word is 0 and a part is cut off. Assumes nothing.
 use Prim.Native.Nat.{ℕ, _+_, _-_, _*_, _/_, _≤_, _<_, min}
 use native.Mathlib.Omega.{arith}
-use native.Mathlib.Nat.{add-sub-cancel-left, div-lt-iff-lt-mul, le-div-iff-mul-le, mul-le-mul, zero-mul, add-zero}
+use native.Mathlib.Nat.{add-sub-cancel-left, div-lt-iff-lt-mul, le-div-iff-mul-le, zero-mul, zero-min}
 use mathlib.Core.Path.{_≡_, refl, sym, _∙_}
 use mathlib.Core.List.{List, []}
 use lib.ListN.{length, take, drop, length-drop, drop-of-length-le, List·getD-eq-default}
@@ -35,24 +35,30 @@ module _ (size at n total : ℕ) (s : size ≡ 0 → ⊥) (l : at ≤ total) whe
   pub ends-inside : n ≤ (total - at) / size → at + size * n ≤ total
   ends-inside h = omega (arith, le-div-iff-mul-le {k = size} {x = n} {y = total - at} (omega arith) .0 h)
 
--- the product of two short numbers fits 64 bits
-pub short-product : (a b : ℕ) → a < 4294967296 → b < 4294967296 → a * b < 18446744073709551616
-short-product a b h k = let m : a * b ≤ 4294967295 * 4294967295 = mul-le-mul {n₁ = a} {m₁ = b} {n₂ = 4294967295} {m₂ = 4294967295} (omega arith) (omega arith) in omega arith
+-- ---- what n rows of `size` words take, told by a division, which can't wrap
+module _ (size n largest : ℕ) where
+  pub none-taken : size ≡ 0 → 0 ≡ min (size * n) largest
+  none-taken z = rw (z, zero-mul) (sym (zero-min largest))
 
--- ---- a field; `at` is where the section begins
+  pub too-many : (size ≡ 0 → ⊥) → largest / size < n → largest ≡ min (size * n) largest
+  too-many s h = omega (arith, div-lt-iff-lt-mul {k = size} {x = largest} {y = n} (omega arith) .0 h)
+
+  pub product-fits : (size ≡ 0 → ⊥) → n ≤ largest / size → size * n ≤ largest
+  product-fits s h = omega (arith, le-div-iff-mul-le {k = size} {x = n} {y = largest} (omega arith) .0 h)
+
+-- ---- a field; `at` is where the section begins, and `row` what the rows before take
 module _ (w : List ℕ) (s : Section) (n j : ℕ) {at : ℕ} (e : at ≡ offsetOf w s) where
   pub field-past : length w ≤ at + s .size * n + j → 0 ≡ fieldOf w s n j
   unfolding fieldOf
   field-past h = word-past w (offsetOf w s + s .size * n + j) (rw (← e) h)
 
-  pub field-at : {r : ℕ} → r ≡ word w (at + s .size * n + j) → r ≡ fieldOf w s n j
-  unfolding fieldOf
-  field-at t = t ∙ rw e refl
+  module _ (largest : ℕ) {row : ℕ} (t : row ≡ min (s .size * n) largest) (l : length w ≤ largest) where
+    pub field-behind : length w - at ≤ row + j → 0 ≡ fieldOf w s n j
+    field-behind h = field-past (omega (arith, t, l, h))
 
-  -- rows of no words
-  pub field-flat : {r : ℕ} → s .size ≡ 0 → r ≡ word w (at + j) → r ≡ fieldOf w s n j
-  unfolding fieldOf
-  field-flat z t = t ∙ rw (e, z, zero-mul, add-zero) refl
+    pub field-inside : {r : ℕ} → row < length w - at → r ≡ word w (at + row + j) → r ≡ fieldOf w s n j
+    unfolding fieldOf
+    field-inside h q = let k : row ≡ s .size * n = omega (arith, t, l, h) in q ∙ rw (e, k) refl
 
 -- ---- a range
 module _ (first n rows : ℕ) where

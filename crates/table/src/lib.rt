@@ -1,5 +1,6 @@
 // Reads of a bundle's words and bytes that ask nothing of their caller: past the end a word is 0 and a part is cut off.
 ghost use mathlib.Core.Path.{_≡_};
+ghost use Prim.Native.Nat.{_*_, min};
 ghost use Rattle.table.specs.Table.{word as wordOf, part, countOf, offsetOf, fieldOf, stringOf, rangeOf};
 
 // The number of a string: a row of S.
@@ -25,8 +26,7 @@ pub struct Range {
 
 pub const STRINGS: Section = Section { count: 1, size: 2 };
 
-// Numbers below it have a product that fits 64 bits.
-const SHORT: u64 = 4294967296;
+const LARGEST: u64 = 18446744073709551615;
 
 // The word at a place, or 0 past the end.
 pub fn word(words: &[u64], at: usize) -> u64
@@ -70,46 +70,30 @@ pub fn offset(words: &[u64], s: Section) -> u64
     0
 }
 
-// Word j of row n of a section, or 0 where that lies past the end, for numbers of any size. No sum wraps: each is tested before it is made.
-fn far_field(words: &[u64], s: Section, n: u64, j: u64) -> u64
-    ensures { λ r. ⌜ r ≡ fieldOf (now (words .entry)) s n j ⌝ }
+// How many words n rows take, or the largest number if that is more. Nothing wraps: the largest number is divided instead.
+fn words_of(size: u64, n: u64) -> u64
+    ensures { λ r. ⌜ r ≡ min (size * n) 18446744073709551615 ⌝ }
 {
-    let total = words.len() as u64;
-    let at = offset(words, s);
-    let size = s.size;
-    if total <= at {
-        return 0;
-    }
-    if total <= j {
-        return 0;
-    }
     if size == 0 {
-        return word(words, (at + j) as usize);
-    }
-    if (total - at) / size < n {
         return 0;
     }
-    word(words, (at + size * n + j) as usize)
+    if LARGEST / size < n {
+        return LARGEST;
+    }
+    size * n
 }
 
-// The same. Nearly all numbers of rows are short, and then nothing has to be divided.
+// Word j of row n of a section, or 0 where that lies past the end. No sum wraps: each is tested before it is made.
 pub fn field(words: &[u64], s: Section, n: u64, j: u64) -> u64
     ensures { λ r. ⌜ r ≡ fieldOf (now (words .entry)) s n j ⌝ }
 {
-    let size = s.size;
-    if SHORT <= n {
-        return far_field(words, s, n, j);
-    }
-    if SHORT <= size {
-        return far_field(words, s, n, j);
-    }
     let total = words.len() as u64;
     let at = offset(words, s);
     if total <= at {
         return 0;
     }
     let room = total - at;
-    let row = size * n;
+    let row = words_of(s.size, n);
     if room <= row {
         return 0;
     }
