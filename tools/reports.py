@@ -58,13 +58,13 @@ WRITERS = {
 }
 
 # What a turn calls and writes (T stands for the test, P for the places, k for the turn), the loop's variable and its bound, what the function takes
-# besides what is lent, the locals that it makes first, what has to be seen through at the end, and the law by which a loop that starts at a parameter counts.
+# besides what is lent, the locals that it makes first, what has to be seen through at the end, and the law by which a loop that starts at a parameter counts. skips: a turn that wrote nothing is not joined.
 LOOPS = {
     "write_each": {"call": "write_one", "turn": "asked T (rule .0) (certificate (i₀ + k))", "var": "i", "bound": "to", "takes": "rule to", "law": "each-turn"},
     "write_neighbours": {"call": "write_one", "turn": "asked T (rule .0) (pair k (k + 1))", "var": "i", "bound": "to", "takes": "rule to", "next": True},
     "write_row": {"call": "write_one", "turn": "asked T (rule .0) (pair (i .0) k)", "var": "j", "bound": "to", "takes": "rule i", "locals": "to", "opens": "row"},
     "write_pairs": {"call": "write_row_asked", "turn": "row T (rule .0) (i₀ + k) (i₀ + k)", "var": "i", "bound": "to", "takes": "rule to", "law": "pairs-turn"},
-    "write_rules": {"call": "write_rule", "turn": "entriesAt T (P k) k n", "var": "r", "bound": "rules", "takes": "n", "opens": "index"},
+    "write_rules": {"call": "write_rule", "turn": "entriesAt T (P k) k n", "var": "r", "bound": "rules", "takes": "n", "opens": "index", "skips": True},
 }
 
 # The cases of a rule's places: whether one holds numbers, whether it asks for the last certificate, and its writer.
@@ -166,8 +166,12 @@ def loop(crate, row, function, kind):
     call, var, law = dashed(kind["call"]), kind["var"], kind.get("law")
     known = 3 if law else 2
     same = f"({law} _ _ (l .inv .0))" if law else "refl"
-    more = f"so-far-more _ (omega arith) (l .inv .{known}) (p .{call} .ensures) {same} (c .joined .ensures)"
-    again = ["", f"let p = {back(3)} in", "let l = p .before .before .before .before .loop in (", *known * ["  omega arith,"], f"  {more},", ")"]
+    wrote = f"_ (omega arith) (l .inv .{known}) (p .{call} .ensures) {same}"
+    more = [f"so-far-more {wrote} (c .joined .ensures)"]
+    if "skips" in kind:
+        more = ["⊎-elim", f"(λ w. so-far-more {wrote} (w .2 ∙ w .1 .ensures))", f"(λ w. rw (w .1) (so-far-same {wrote} (w .0 .left)))", "(c .if1 .came)"]
+    again = ["", f"let p = {back(4 if 'skips' in kind else 3)} in", "let l = p .before .before .before .before .loop in (", *known * ["  omega arith,"]]
+    again += ["  " + "\n      ".join(more) + ",", ")"]
     step = "add-next" if "next" in kind else f"add-{var}"
     before, after = ([step], []) if "next" in kind else ([], [step])
     done = f"so-far-done _ ({back(1)} .loop .inv .{known}) (omega arith)"
@@ -186,11 +190,12 @@ def loop(crate, row, function, kind):
     uses = [
         some("Prim.Native.Nat", (["_+_"] if "+" in kind["turn"] else []) + ["_-_", "_≤_", "_<_"]),
         "native.Mathlib.Omega.{arith}",
-        None if law else "mathlib.Core.Path.{refl}",
+        some("mathlib.Core.Path", ([] if law else ["refl"]) + (["_∙_"] if "skips" in kind else [])),
+        "mathlib.Core.Logic.{⊎-elim}" if "skips" in kind else None,
         "borrow.Author.Needs.{needs}",
         some("Rattle.faults.specs.Report", used(["certificate", "pair"], text)),
         some("Rattle.faults.specs.Index", used(["asked", "row", "entriesAt", "index"], text)),
-        some("Rattle.faults.proofs.Laws", ["SoFar", "so-far-none", "so-far-more", *([law] if law else []), "so-far-done"]),
+        some("Rattle.faults.proofs.Laws", ["SoFar", "so-far-none", "so-far-more", *(["so-far-same"] if "skips" in kind else []), *([law] if law else []), "so-far-done"]),
         some(row["specs"], used([row["test"], row["places"], "rules"], text)),
     ]
     return proof(crate, function, "Each turn writes into what the turns before it left free.", uses, answers, start)

@@ -1,8 +1,9 @@
 -- The laws of writing entries into lent words, and of a loop of writers. They hold of every list of entries and every family of them. Assumes nothing.
 use Prim.Native.Nat.{ℕ, zero, suc, _+_, _-_, _*_, _≤_, _<_}
 use native.Mathlib.Omega.{arith}
+use native.Mathlib.Nat.{zero-min}
 use native.Mathlib.Numerals.{add-one}
-use mathlib.Core.Path.{_≡_, refl, sym, ap, _∙_}
+use mathlib.Core.Path.{_≡_, refl, sym, ap, subst, _∙_}
 use mathlib.Core.List.{List, [], _∷_, _++_, append-nil}
 use mathlib.Core.Bool.{Bool, true, false}
 use lib.ListN.{length, getD, take, drop, set, length-append, length-drop}
@@ -10,13 +11,14 @@ use lib.Seq.{drop-length}
 use borrow.Author.Tests.{ne-eqb, lt-ltb, le-ltb}
 use borrow.Rule.Slice.PartMut.{putMid, post-is}
 use Rattle.laws.proofs.Parts.{rest}
-use Rattle.faults.specs.Report.{certificate, one, write, wordsOf, fitting, firstOf, mostCount, Wrote, noneYet, earlier, joined}
+use Rattle.faults.specs.Report.{certificate, one, write, wordsOf, fitting, firstOf, mostCount, counted, Wrote, noneYet, earlier, joined}
 use Rattle.faults.specs.Index.{gather, asked, row, index, fullIndex}
 use Rattle.faults.specs.Places.{fewest, shortEntry, when}
 use Rattle.faults.specs.declared.Spot.{Spot}
 use Rattle.faults.specs.declared.Entry.{Entry}
 use Rattle.faults.specs.declared.Places.{Places}
-use Rattle.faults.specs.declared.First.the-variants.{Broken}
+use Rattle.faults.specs.declared.First.{First}
+use Rattle.faults.specs.declared.First.the-variants.{Clear, Broken}
 use Rattle.faults.specs.declared.Tally.{Tally}
 
 -- ---- one buffer
@@ -133,6 +135,24 @@ wrote-then {a} {b} {old} {mid} {tail} {t} {u} h p q =
       first-is = rw (p .first-is, q .first-is) (first-append a b);
     }
 
+-- a writer without entries adds nothing to what was handed back before
+no-entries : (es : List Entry) → counted (length es) ≡ 0 → es ≡ []
+no-entries [] h = refl
+no-entries (e ∷ es) h = absurd (omega (arith, h))
+
+none-behind : (a : First) → earlier a Clear ≡ a
+none-behind Clear = refl
+none-behind (Broken e) = refl
+
+joined-none : {es : List Entry} {old new : List ℕ} (t : Tally) {u : Tally} → t .total ≤ mostCount → t .written ≤ mostCount → Wrote es old new u → u .total ≡ 0 → joined t u ≡ t
+joined-none {es} {old} t {u} h k q z =
+    let n : es ≡ [] = no-entries es (sym (q .total-is) ∙ z) in
+    let w : u .written ≡ 0 = q .written-is ∙ rw n (zero-min _) in
+    let a : counted (t .total + u .total) ≡ t .total = omega (arith, h, z) in
+    let b : counted (t .written + u .written) ≡ t .written = omega (arith, k, w) in
+    let c : earlier (t .first) (u .first) ≡ t .first = rw (q .first-is, n) (none-behind (t .first)) in
+    rw (a, b, c) refl
+
 -- ---- a loop of writers: f 0, f 1, ..
 
 -- the first k of the writers have written. `same` and `room` follow from `wrote`, and stand here for `omega` to read
@@ -162,6 +182,12 @@ module _ (f : ℕ → List Entry) where
       let r : Wrote (gather f m) old (back (3 * t .written) mid tail) v = rw (gather-more k m e, ← s, j) (wrote-then (p .fits) (p .wrote) q) in
       let n : length (back (3 * t .written) mid tail) ≡ length old = ap length (r .buffer) ∙ length-write (gather f m) old in
       record { fits = p .fits; same = n; room = omega (arith, r .written-is); wrote = r }
+
+  -- a turn that wrote nothing
+  pub so-far-same : {k m : ℕ} {es : List Entry} {old mid tail : List ℕ} {t u : Tally} → m ≡ k + 1
+      → SoFar f k old mid t → Wrote es (lent (3 * t .written) mid) tail u → es ≡ f k → u .total ≡ 0 → SoFar f m old (back (3 * t .written) mid tail) t
+  so-far-same {k} {m} {es} {old} {mid} {tail} {t} e p q s z =
+      subst (SoFar f m old (back (3 * t .written) mid tail)) (joined-none t (omega (arith, p .wrote .total-is)) (omega (arith, p .room, p .same, p .fits)) q z) (so-far-more e p q s refl)
 
   -- after the last
   pub so-far-done : {k n : ℕ} {old new : List ℕ} {t : Tally} → SoFar f k old new t → n ≡ k → Wrote (gather f n) old new t

@@ -4,7 +4,6 @@ ghost use mathlib.Core.List.{[], _∷_};
 ghost use Prim.Native.Nat.{_+_, _-_};
 ghost use Rattle.faults.specs.Report.{Wrote, one, counted, joined as joinedOf, earlier as earlierOf, firstWord, secondWord};
 ghost use Rattle.faults.specs.Places.{shortEntry};
-ghost use Rattle.faults.specs.declared.First.the-variants.{Broken};
 use table::CertPos;
 use table::RuleNo;
 
@@ -135,22 +134,12 @@ fn sum(a: usize, b: usize) -> usize
     if MOST - a < b { MOST } else { a + b }
 }
 
-fn earlier_than(a: First, e: Entry) -> First
-    ensures { λ r. ⌜ r ≡ earlierOf a (Broken e) ⌝ }
-{
-    match a {
-        First::Clear => First::Broken(e),
-        First::Broken(d) => First::Broken(d),
-    }
-}
-
-// The first entry of two writers. Most writers have none, so that the second is asked first, and then nothing is moved.
 fn earlier(a: First, b: First) -> First
     ensures { λ r. ⌜ r ≡ earlierOf a b ⌝ }
 {
-    match b {
-        First::Clear => a,
-        First::Broken(e) => earlier_than(a, e),
+    match a {
+        First::Clear => b,
+        First::Broken(e) => First::Broken(e),
     }
 }
 

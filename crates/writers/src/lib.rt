@@ -250,7 +250,7 @@ fn write_rule(
     }
 }
 
-// All rules, in order.
+// All rules, in order. Most of them write nothing, and then there is nothing to join.
 fn write_rules(
     policy: Policy,
     n: u32,
@@ -276,7 +276,9 @@ fn write_rules(
             pbytes,
             &mut report[at..],
         );
-        tally = faults::joined(tally, t);
+        if t.total != 0 {
+            tally = faults::joined(tally, t);
+        }
         r += 1;
     }
     tally

@@ -1,10 +1,11 @@
 -- Each turn writes into what the turns before it left free. Written by tools/reports.py. Assumes nothing.
 use Prim.Native.Nat.{_-_, _≤_, _<_}
 use native.Mathlib.Omega.{arith}
-use mathlib.Core.Path.{refl}
+use mathlib.Core.Path.{refl, _∙_}
+use mathlib.Core.Logic.{⊎-elim}
 use borrow.Author.Needs.{needs}
 use Rattle.faults.specs.Index.{entriesAt, index}
-use Rattle.faults.proofs.Laws.{SoFar, so-far-none, so-far-more, so-far-done}
+use Rattle.faults.proofs.Laws.{SoFar, so-far-none, so-far-more, so-far-same, so-far-done}
 use Rattle.rules.specs.Rules.{brokenIn, placesOf, rules}
 use Rattle.writers.proofs.write_rules.Statement.{statement}
 use Rattle.writers.proofs.write_rules.Tie as tie
@@ -48,11 +49,14 @@ loop-less c = omega arith
 
 loop-again : tie.Need-loop-again Inv-loop μ-loop
 loop-again c =
-    let p = c .before .before .before in
+    let p = c .before .before .before .before in
     let l = p .before .before .before .before .loop in (
       omega arith,
       omega arith,
-      so-far-more _ (omega arith) (l .inv .2) (p .write-rule .ensures) refl (c .joined .ensures),
+      ⊎-elim
+          (λ w. so-far-more _ (omega arith) (l .inv .2) (p .write-rule .ensures) refl (w .2 ∙ w .1 .ensures))
+          (λ w. rw (w .1) (so-far-same _ (omega arith) (l .inv .2) (p .write-rule .ensures) refl (w .0 .left)))
+          (c .if1 .came),
     )
 
 same-length : tie.Need-same-length Inv-loop μ-loop
