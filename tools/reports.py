@@ -171,7 +171,7 @@ def loop(crate, row, function, kind):
     if "skips" in kind:
         more = ["⊎-elim", f"(λ w. so-far-more {wrote} (w .2 ∙ w .1 .ensures))", f"(λ w. rw (w .1) (so-far-same {wrote} (w .0 .left)))", "(c .if1 .came)"]
     again = ["", f"let p = {back(4 if 'skips' in kind else 3)} in", "let l = p .before .before .before .before .loop in (", *known * ["  omega arith,"]]
-    again += ["  " + "\n      ".join(more) + ",", ")"]
+    again += ["  " + "\n          ".join(more) + ",", ")"]
     step = "add-next" if "next" in kind else f"add-{var}"
     before, after = ([step], []) if "next" in kind else ([], [step])
     done = f"so-far-done _ ({back(1)} .loop .inv .{known}) (omega arith)"
