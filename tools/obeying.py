@@ -145,12 +145,12 @@ def entries(variant, policy):
     lines += [
         "use Rattle.faults.proofs.Standing.{" + ", ".join(k + "-entries" for k in kinds) + "}",
         "use Rattle.faults.proofs.Theorems.{only}",
-        "use Rattle.rules.specs.Rules.{broken, brokenAt, brokenBetween, holdsAt, holdsBetween, "
-        + ("isRoot, " if any("isRoot" in t for _, t in policy["rules"].values()) else "")
-        + f"placesOf, {policy['places']}, rules, short}}",
-        f"use Rattle.rules.specs.declared.Policy.the-variants.{{{variant}}}",
-        f"use Rattle.rules.proofs.Besides.{{not-{variant.lower()}}}",
-        "use Rattle.rules.proofs.Laws.{no-more}",
+        f"use Rattle.policies.specs.Tables.{{placesOf, {policy['places']}, rules, short}}",
+        "use Rattle.rules.specs.Rules.{broken, brokenAt, brokenBetween, holdsAt, holdsBetween"
+        + (", isRoot}" if any("isRoot" in t for _, t in policy["rules"].values()) else "}"),
+        f"use Rattle.policies.specs.declared.Policy.the-variants.{{{variant}}}",
+        f"use Rattle.policies.proofs.Besides.{{not-{variant.lower()}}}",
+        "use Rattle.policies.proofs.Laws.{no-more}",
         "",
         start(variant, policy),
         "  -- the entries of the chain, in order",
@@ -228,8 +228,9 @@ def obeying(variant, policy):
         "use Rattle.faults.specs.declared.Spot.{Spot}",
         "use Rattle.faults.specs.declared.Places.{Places}",
         "use Rattle.faults.proofs.Laws.{other}",
-        f"use Rattle.rules.specs.Rules.{{broken, brokenAt, brokenBetween, holdsAt, holdsBetween, placesOf, {policy['places']}, short}}",
-        f"use Rattle.rules.specs.declared.Policy.the-variants.{{{variant}}}",
+        f"use Rattle.policies.specs.Tables.{{placesOf, {policy['places']}, short}}",
+        "use Rattle.rules.specs.Rules.{broken, brokenAt, brokenBetween, holdsAt, holdsBetween}",
+        f"use Rattle.policies.specs.declared.Policy.the-variants.{{{variant}}}",
         f"use Rattle.judge.specs.Obeys.{{{record}}}",
         f"use Rattle.judge.proofs.Places.{{{', '.join(laws)}}}",
         "",
@@ -272,7 +273,7 @@ def nowhere():
         "use mathlib.Core.Logic.{_⊎_, ⊎-elim}",
         "use Rattle.faults.specs.declared.Places.the-variants.{Nowhere}",
         "use Rattle.faults.proofs.Laws.{other}",
-        f"use Rattle.rules.specs.Rules.{{{tables}}}",
+        f"use Rattle.policies.specs.Tables.{{{tables}}}",
     ]
     for variant, policy in POLICIES.items():
         rules = sorted(policy["rules"])
@@ -295,7 +296,7 @@ def nowhere():
 
 
 def files():
-    made = {"crates/rules/proofs/Besides.antt": nowhere()}
+    made = {"crates/policies/proofs/Besides.antt": nowhere()}
     for variant, policy in POLICIES.items():
         made[f"crates/judge/proofs/Entries{variant}.antt"] = entries(variant, policy)
         made[f"crates/judge/proofs/Obeying{variant}.antt"] = obeying(variant, policy)

@@ -3,16 +3,19 @@ report, and the tables by a rule's number.
 
 The names of the functions are the same in every crate that has them; what a crate lends, and its tables, are a row of TABLES or WRITERS."""
 
-# The crate that has the tables. specs: where their definitions stand. opens: what has to be seen through to see the test's cases. arms: for each function that goes by
+# The crates that have the tables. specs: where their definitions stand. opens: what has to be seen through to see the test's cases, in the crate that has it. arms: for each function that goes by
 # a rule's number the definition that it computes, and the function that each arm calls (None: a value). policies: for each function that goes by the policy the
 # function that each arm calls; the definition is named where it has to be seen through.
 TABLES = {
+    "policies": {
+        "specs": "Rattle.policies.specs.Tables",
+        "arms": {"openssl_places": ("openSslPlaces", 14 * [None]), "chrome_places": ("chromePlaces", 18 * [None])},
+        "policies": {"places_of": ("placesOf", ["openssl_places", "chrome_places"])},
+    },
     "rules": {
         "opens": "broken",
         "specs": "Rattle.rules.specs.Rules",
         "arms": {
-            "openssl_places": ("openSslPlaces", 14 * [None]),
-            "chrome_places": ("chromePlaces", 18 * [None]),
             "holds_at": (
                 "holdsAt",
                 [
@@ -40,19 +43,19 @@ TABLES = {
             "purpose_holds": (None, ["check_purpose", "extended_key_usage_valid"]),
             "constraints_hold": (None, ["check_name_constraints", "check_name_constraints"]),
             "host_holds": (None, ["host_named", "host_named"]),
-            "places_of": ("placesOf", ["openssl_places", "chrome_places"]),
         },
     },
 }
 
 # The crate that writes the report. first: the parameters before all others. lent: the slices that the rules read. test, places: the definitions of the two tables.
-# specs: where these stand.
+# tables, specs: where these stand.
 WRITERS = {
     "writers": {
         "first": ["policy"],
         "lent": ["words", "bytes", "pwords", "pbytes"],
         "test": "brokenIn",
         "places": "placesOf",
+        "tables": "Rattle.policies.specs.Tables",
         "specs": "Rattle.rules.specs.Rules",
     },
 }
@@ -196,7 +199,8 @@ def loop(crate, row, function, kind):
         some("Rattle.faults.specs.Report", used(["certificate", "pair"], text)),
         some("Rattle.faults.specs.Index", used(["asked", "row", "entriesAt", "index"], text)),
         some("Rattle.faults.proofs.Laws", ["SoFar", "so-far-none", "so-far-more", *(["so-far-same"] if "skips" in kind else []), *([law] if law else []), "so-far-done"]),
-        some(row["specs"], used([row["test"], row["places"], "rules"], text)),
+        some(row["tables"], used([row["places"], "rules"], text)),
+        some(row["specs"], used([row["test"]], text)),
     ]
     return proof(crate, function, "Each turn writes into what the turns before it left free.", uses, answers, start)
 
@@ -299,7 +303,8 @@ def write_one(crate):
 def files():
     made = {}
     for crate, row in TABLES.items():
-        made[crate, "breaks"] = breaks(crate, row)
+        if "opens" in row:
+            made[crate, "breaks"] = breaks(crate, row)
         for function, (definition, arms) in row["arms"].items():
             made[crate, function] = table(crate, row, function, definition, arms)
         for function, (definition, calls) in row["policies"].items():

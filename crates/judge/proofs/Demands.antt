@@ -25,13 +25,14 @@ use Rattle.faults.specs.declared.Entry.{Entry}
 use Rattle.faults.specs.declared.First.{First}
 use Rattle.faults.specs.declared.First.the-variants.{Clear, Broken as FirstBroken}
 use Rattle.faults.proofs.Theorems.{bound, first-least, first-clear, total-most, one-report, reported-is}
-use Rattle.rules.proofs.Laws.{no-more, few-singles, one-of-pairs}
+use Rattle.policies.proofs.Laws.{no-more, few-singles, one-of-pairs}
 use Rattle.judge.proofs.Laws.{few-certs, chain-once, chain-sound, chain-refused, policy-refused, both-once, both-sound}
-use Rattle.rules.specs.Rules.{broken, placesOf, noLists, rules, short}
+use Rattle.policies.specs.Tables.{placesOf, rules, short}
+use Rattle.rules.specs.Rules.{broken, noLists}
 use Rattle.judge.specs.Judged.{NoFault, placeOf, answerBy, answerOf, Judging, Outcome, Judged, OpenSslJudged, BothVerdict, ChromeJudged}
 use Rattle.judge.specs.Obeys.{ObeysOpenSsl, ObeysChrome}
-use Rattle.rules.specs.declared.Policy.{Policy}
-use Rattle.rules.specs.declared.Policy.the-variants.{OpenSsl, Chrome}
+use Rattle.policies.specs.declared.Policy.{Policy}
+use Rattle.policies.specs.declared.Policy.the-variants.{OpenSsl, Chrome}
 use Rattle.judge.specs.declared.Answer.{Answer}
 use Rattle.judge.specs.declared.Answer.the-variants.{Accepted, Broken, Refused}
 use Rattle.judge.proofs.ObeyingOpenSsl as O

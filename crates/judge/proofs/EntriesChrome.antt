@@ -32,10 +32,11 @@ use Rattle.faults.specs.declared.Spot.{Spot}
 use Rattle.faults.specs.declared.Places.{Places}
 use Rattle.faults.proofs.Standing.{nowhere-entries, each-entries, leaf-entries, root-entries, ends-entries, neighbours-entries, pairs-entries}
 use Rattle.faults.proofs.Theorems.{only}
-use Rattle.rules.specs.Rules.{broken, brokenAt, brokenBetween, holdsAt, holdsBetween, placesOf, chromePlaces, rules, short}
-use Rattle.rules.specs.declared.Policy.the-variants.{Chrome}
-use Rattle.rules.proofs.Besides.{not-chrome}
-use Rattle.rules.proofs.Laws.{no-more}
+use Rattle.policies.specs.Tables.{placesOf, chromePlaces, rules, short}
+use Rattle.rules.specs.Rules.{broken, brokenAt, brokenBetween, holdsAt, holdsBetween}
+use Rattle.policies.specs.declared.Policy.the-variants.{Chrome}
+use Rattle.policies.proofs.Besides.{not-chrome}
+use Rattle.policies.proofs.Laws.{no-more}
 
 module _ (c : Chain) (l : Lists) where
   abbrev n : ℕ

@@ -29,10 +29,11 @@ use Rattle.faults.specs.declared.Spot.{Spot}
 use Rattle.faults.specs.declared.Places.{Places}
 use Rattle.faults.proofs.Standing.{nowhere-entries, each-entries, leaf-entries, neighbours-entries, pairs-entries}
 use Rattle.faults.proofs.Theorems.{only}
-use Rattle.rules.specs.Rules.{broken, brokenAt, brokenBetween, holdsAt, holdsBetween, isRoot, placesOf, openSslPlaces, rules, short}
-use Rattle.rules.specs.declared.Policy.the-variants.{OpenSsl}
-use Rattle.rules.proofs.Besides.{not-openssl}
-use Rattle.rules.proofs.Laws.{no-more}
+use Rattle.policies.specs.Tables.{placesOf, openSslPlaces, rules, short}
+use Rattle.rules.specs.Rules.{broken, brokenAt, brokenBetween, holdsAt, holdsBetween, isRoot}
+use Rattle.policies.specs.declared.Policy.the-variants.{OpenSsl}
+use Rattle.policies.proofs.Besides.{not-openssl}
+use Rattle.policies.proofs.Laws.{no-more}
 
 module _ (c : Chain) (l : Lists) where
   abbrev n : ℕ

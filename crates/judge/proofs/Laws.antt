@@ -21,9 +21,10 @@ use Rattle.sound.specs.declared.Checked.the-variants.{Sound, Refused as Refused
 use Rattle.decoded.proofs.Gives.{in-limits}
 use Rattle.faults.specs.Order.{Reported}
 use Rattle.faults.specs.declared.Tally.{Tally}
-use Rattle.rules.specs.Rules.{broken, placesOf, short}
+use Rattle.policies.specs.Tables.{placesOf, short}
+use Rattle.rules.specs.Rules.{broken}
 use Rattle.judge.specs.Judged.{NoFault, answerOf, Judging, Outcome, BothVerdict}
-use Rattle.rules.specs.declared.Policy.{Policy}
+use Rattle.policies.specs.declared.Policy.{Policy}
 use Rattle.judge.specs.declared.Answer.{Answer}
 use Rattle.judge.specs.declared.Answer.the-variants.{Refused}
 

@@ -11,8 +11,9 @@ use Rattle.faults.specs.declared.Entry.{Entry}
 use Rattle.faults.specs.declared.Spot.{Spot}
 use Rattle.faults.specs.declared.Places.{Places}
 use Rattle.faults.proofs.Laws.{other}
-use Rattle.rules.specs.Rules.{broken, brokenAt, brokenBetween, holdsAt, holdsBetween, placesOf, chromePlaces, short}
-use Rattle.rules.specs.declared.Policy.the-variants.{Chrome}
+use Rattle.policies.specs.Tables.{placesOf, chromePlaces, short}
+use Rattle.rules.specs.Rules.{broken, brokenAt, brokenBetween, holdsAt, holdsBetween}
+use Rattle.policies.specs.declared.Policy.the-variants.{Chrome}
 use Rattle.judge.specs.Obeys.{ObeysChrome}
 use Rattle.judge.proofs.Places.{holds, fails, by-number, long, at-each, at-leaf, at-root, at-ends, at-neighbours, at-pairs, Quiet, quiet-nowhere, quiet-each, quiet-leaf, quiet-root, quiet-ends, quiet-neighbours, quiet-pairs}
 

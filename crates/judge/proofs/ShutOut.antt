@@ -20,9 +20,10 @@ use Rattle.faults.specs.declared.Entry.{Entry}
 use Rattle.faults.specs.declared.First.{First}
 use Rattle.faults.specs.declared.First.the-variants.{Clear, Broken as FirstBroken}
 use Rattle.faults.proofs.Theorems.{only}
-use Rattle.rules.specs.Rules.{broken, placesOf, rules, short}
-use Rattle.rules.specs.declared.Policy.{Policy}
-use Rattle.rules.proofs.Laws.{no-more, no-rule-0}
+use Rattle.policies.specs.Tables.{placesOf, rules, short}
+use Rattle.rules.specs.Rules.{broken}
+use Rattle.policies.specs.declared.Policy.{Policy}
+use Rattle.policies.proofs.Laws.{no-more, no-rule-0}
 use Rattle.judge.specs.Judged.{NoFault, answerBy, Judged, OpenSslJudged, ChromeJudged}
 use Rattle.judge.specs.Obeys.{ObeysOpenSsl, ObeysChrome}
 use Rattle.judge.specs.declared.Answer.{Answer}

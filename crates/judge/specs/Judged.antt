@@ -17,9 +17,10 @@ use Rattle.faults.specs.declared.Spot.the-variants.{Nothing as NoSpot, Certific
 use Rattle.faults.specs.declared.First.{First}
 use Rattle.faults.specs.declared.First.the-variants.{Clear, Broken as FirstBroken}
 use Rattle.faults.specs.declared.Tally.{Tally}
-use Rattle.rules.specs.Rules.{broken, placesOf, short, noLists}
-use Rattle.rules.specs.declared.Policy.{Policy}
-use Rattle.rules.specs.declared.Policy.the-variants.{OpenSsl, Chrome}
+use Rattle.policies.specs.Tables.{placesOf, short}
+use Rattle.rules.specs.Rules.{broken, noLists}
+use Rattle.policies.specs.declared.Policy.{Policy}
+use Rattle.policies.specs.declared.Policy.the-variants.{OpenSsl, Chrome}
 use Rattle.judge.specs.declared.Answer.{Answer}
 use Rattle.judge.specs.declared.Answer.the-variants.{Accepted, Broken, Refused}
 

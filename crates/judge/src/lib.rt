@@ -10,7 +10,7 @@ use faults::First;
 use faults::Spot;
 use faults::Tally;
 use model::chain::CERTS;
-use rules::Policy;
+use policies::Policy;
 use sound::Bundle;
 use sound::Checked;
 use sound::Place;

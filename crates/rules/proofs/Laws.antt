@@ -1,8 +1,7 @@
--- What holds of the tables of every policy. Assumes nothing.
-use Prim.Native.Nat.{ℕ, _+_, _≤_}
+-- What holds of the rules of every policy. Assumes nothing.
+use Prim.Native.Nat.{ℕ, _+_}
 use native.Mathlib.Omega.{arith}
 use mathlib.Core.Path.{_≡_, refl, ap}
-use mathlib.Core.Logic.{inl, inr}
 use mathlib.Core.Bool.{Bool, true, false, not, _&&_, or-false, false≢true}
 use mathlib.Core.List.{List}
 use mathlib.Core.Option.{Option, none, some}
@@ -19,37 +18,10 @@ use Rattle.constraints.specs.Keeps.{keepsConstraints}
 use Rattle.constrained_o.specs.Rule14.{checkNameConstraints as checkNameConstraintsO}
 use Rattle.constrained_c.specs.Rule14.{checkNameConstraints as checkNameConstraintsC}
 use Rattle.faults.specs.Report.{certificate, pair}
-use Rattle.faults.specs.Order.{NoneFrom}
 use Rattle.faults.specs.Places.{when}
-use Rattle.faults.specs.Count.{sum, isSingle, isPairs, singleRules, pairRules}
-use Rattle.faults.specs.declared.Places.the-variants.{Nowhere}
-use Rattle.rules.specs.Rules.{constraintsHold, holdsBetween, brokenAt, brokenBetween, broken, asksNothing, openSslPlaces, chromePlaces, placesOf, rules}
-use Rattle.rules.specs.declared.Policy.{Policy}
-use Rattle.rules.specs.declared.Policy.the-variants.{OpenSsl, Chrome}
-use Rattle.rules.proofs.Besides.{not-openssl, not-chrome}
-
--- No table has a rule from 21 on, so the loop to 20 misses none.
-pub no-more : (p : Policy) → NoneFrom (placesOf p) rules
-unfolding placesOf
-no-more OpenSsl r h = not-openssl r (inr (omega arith))
-no-more Chrome r h = not-chrome r (inr (inl (omega arith)))
-
--- There is no rule 0.
-pub no-rule-0 : (p : Policy) → placesOf p 0 ≡ Nowhere
-unfolding placesOf
-no-rule-0 OpenSsl = not-openssl 0 (inl (omega arith))
-no-rule-0 Chrome = not-chrome 0 (inl (omega arith))
-
--- At most 19 rules of a policy are asked of single places, and one of pairs.
-pub few-singles : (p : Policy) → singleRules (placesOf p) rules ≤ 19
-unfolding singleRules sum isSingle placesOf openSslPlaces chromePlaces when
-few-singles OpenSsl = omega arith
-few-singles Chrome = omega arith
-
-pub one-of-pairs : (p : Policy) → pairRules (placesOf p) rules ≤ 1
-unfolding pairRules sum isPairs placesOf openSslPlaces chromePlaces when
-one-of-pairs OpenSsl = omega arith
-one-of-pairs Chrome = omega arith
+use Rattle.rules.specs.Rules.{constraintsHold, holdsBetween, brokenAt, brokenBetween, broken, asksNothing}
+use Rattle.policies.specs.declared.Policy.{Policy}
+use Rattle.policies.specs.declared.Policy.the-variants.{OpenSsl, Chrome}
 
 -- A run of one certificate.
 pub at-one : (p : Policy) (c : Chain) (l : Lists) (r i : ℕ) → any (broken p c l r) (rows certificate i (i + 1)) ≡ brokenAt p c l r i

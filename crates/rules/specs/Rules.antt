@@ -1,4 +1,4 @@
--- The rules by their numbers, and where each is asked: a line a rule (document 01, "The rules"). Assumes nothing.
+-- The rules by their numbers: a line a rule (document 01, "The rules"). Assumes nothing.
 use Prim.Native.Nat.{ℕ, _+_}
 use mathlib.Core.List.{List, []}
 use mathlib.Core.Bool.{Bool, true, false, not, _&&_}
@@ -9,8 +9,6 @@ use Rattle.model.specs.Decode.{chainOf, listsOf}
 use Rattle.faults.specs.Places.{when}
 use Rattle.faults.specs.declared.Spot.{Spot}
 use Rattle.faults.specs.declared.Spot.the-variants.{Nothing, Certificate, Pair}
-use Rattle.faults.specs.declared.Places.{Places}
-use Rattle.faults.specs.declared.Places.the-variants.{Nowhere, Leaf, Root, LeafAndRoot, Each, Neighbours, Pairs}
 use Rattle.fields.specs.Validity.{checkCertTime}
 use Rattle.fields.specs.Signatures.{outerInnerSigMatch}
 use Rattle.fields.specs.Uids.{issuerSubjectUidVersion}
@@ -32,8 +30,8 @@ use Rattle.hosts_c.specs.SanHost.{hostNamed as hostNamedC}
 use Rattle.roots.specs.Duration.{durationHolds}
 use Rattle.roots.specs.Fingerprints.{notInCrl, validRootFingerprint}
 use Rattle.roots.specs.Symantec.{symantecHolds}
-use Rattle.rules.specs.declared.Policy.{Policy}
-use Rattle.rules.specs.declared.Policy.the-variants.{OpenSsl, Chrome}
+use Rattle.policies.specs.declared.Policy.{Policy}
+use Rattle.policies.specs.declared.Policy.the-variants.{OpenSsl, Chrome}
 
 -- what a policy without lists lends
 abbrev pub noLists : Lists
@@ -119,76 +117,3 @@ asksNothing c r i = eqb r 14 && not (isThere (c .cert i .nc))
 -- what is broken of the chain and the lists that two bundles hold
 abbrev pub brokenIn : Policy → List ℕ → List ℕ → List ℕ → List ℕ → ℕ → Spot → Bool
 brokenIn p w b pw pb = broken p (chainOf w b) (listsOf pw pb)
-
--- ---- where each rule is asked; a rule that a policy doesn't have is asked nowhere
--- every certificate; every one but the leaf; every one but the root; every one but these two
-abbrev pub everywhere : Places
-everywhere = Each (record { 0 = 0 }) 0
-
-abbrev pub aboveLeaf : Places
-aboveLeaf = Each (record { 0 = 1 }) 0
-
-abbrev pub belowRoot : Places
-belowRoot = Each (record { 0 = 0 }) 1
-
-abbrev pub inBetween : Places
-inBetween = Each (record { 0 = 1 }) 1
-
--- every pair of a certificate above the leaf with one below it; the same without the root
-abbrev pub pairsAboveLeaf : Places
-pairsAboveLeaf = Pairs (record { 0 = 1 }) 0
-
-abbrev pub pairsInBetween : Places
-pairsInBetween = Pairs (record { 0 = 1 }) 1
-
-unfoldable pub openSslPlaces : ℕ → Places
-openSslPlaces r =
-    when r 2 everywhere (
-    when r 3 everywhere (
-    when r 4 everywhere (
-    when r 5 everywhere (
-    when r 6 everywhere (
-    when r 7 everywhere (
-    when r 8 everywhere (
-    when r 9 aboveLeaf (
-    when r 10 everywhere (
-    when r 11 everywhere (
-    when r 12 Leaf (
-    when r 13 Neighbours (
-    when r 14 pairsAboveLeaf (
-    when r 15 Leaf (
-    Nowhere))))))))))))))
-
-unfoldable pub chromePlaces : ℕ → Places
-chromePlaces r =
-    when r 2 everywhere (
-    when r 3 everywhere (
-    when r 4 everywhere (
-    when r 5 everywhere (
-    when r 6 everywhere (
-    when r 8 belowRoot (
-    when r 9 aboveLeaf (
-    when r 10 everywhere (
-    when r 11 everywhere (
-    when r 12 Leaf (
-    when r 13 Neighbours (
-    when r 14 pairsInBetween (
-    when r 15 Leaf (
-    when r 16 inBetween (
-    when r 17 LeafAndRoot (
-    when r 18 everywhere (
-    when r 19 Root (
-    when r 20 Root (
-    Nowhere))))))))))))))))))
-
-unfoldable pub placesOf : Policy → ℕ → Places
-placesOf OpenSsl r = openSslPlaces r
-placesOf Chrome r = chromePlaces r
-
--- the numbers of all rules are below it
-abbrev pub rules : ℕ
-rules = 21
-
--- the rule that a chain is long enough
-abbrev pub short : ℕ
-short = 1

@@ -1,16 +1,16 @@
-// The tables of rules: which rule holds where, and where each policy asks it.
+// The table of rules: which rule is broken where.
 ghost use mathlib.Core.Path.{_≡_};
 ghost use Prim.Native.Nat.{_≤_};
 ghost use Rattle.laws.specs.Lists.{any, rows};
 ghost use Rattle.model.specs.Decode.{taskOf, certAt, chainOf, listsOf};
 ghost use Rattle.faults.specs.Report.{certificate};
 ghost use Rattle.fields.specs.KeyLevel.{checkCertKeyLevel};
-ghost use Rattle.rules.specs.Rules.{leastBits, dsaAllowed, purposeHolds, constraintsHold, hostHolds, holdsAt, holdsBetween, isRoot, brokenAt, brokenBetween, asksNothing, brokenIn, openSslPlaces, chromePlaces, placesOf};
-use faults::Places;
+ghost use Rattle.rules.specs.Rules.{leastBits, dsaAllowed, purposeHolds, constraintsHold, hostHolds, holdsAt, holdsBetween, isRoot, brokenAt, brokenBetween, asksNothing, brokenIn};
 use faults::Spot;
 use model::chain::CERTS;
 use model::chain::CertRow;
 use model::chain::row_of;
+use policies::Policy;
 use purpose::Serving;
 use table::CertPos;
 use table::RuleNo;
@@ -25,26 +25,6 @@ const NC: u64 = 33;
 
 // The least bits of an RSA key.
 const LEAST_BITS: u64 = 1024;
-
-// Where a rule is asked: of every certificate, of every one but the leaf, but the root, but these two.
-const EVERYWHERE: Places = Places::Each(CertPos(0), 0);
-
-const ABOVE_LEAF: Places = Places::Each(CertPos(1), 0);
-
-const BELOW_ROOT: Places = Places::Each(CertPos(0), 1);
-
-const IN_BETWEEN: Places = Places::Each(CertPos(1), 1);
-
-// Of every pair of a certificate above the leaf with one below it, with the root and without.
-const PAIRS_ABOVE_LEAF: Places = Places::Pairs(CertPos(1), 0);
-
-const PAIRS_IN_BETWEEN: Places = Places::Pairs(CertPos(1), 1);
-
-// Whose rules are asked.
-pub enum Policy {
-    OpenSsl,
-    Chrome,
-}
 
 // ---- rules that the policies ask in two ways
 
@@ -317,68 +297,4 @@ pub fn asks_nothing(rule: RuleNo, i: CertPos, words: &[u64], bytes: &[u8]) -> bo
 {
     let unconstrained = certs::cert_word(words, row_of(i), NC) == 0;
     (rule.0 == CONSTRAINTS) & unconstrained
-}
-
-// ---- where the rules are asked
-
-// Where OpenSSL asks a rule.
-fn openssl_places(rule: RuleNo) -> Places
-    ensures { λ r. ⌜ r ≡ openSslPlaces (rule .0) ⌝ }
-{
-    let n = rule.0;
-    match n {
-        2 => EVERYWHERE,
-        3 => EVERYWHERE,
-        4 => EVERYWHERE,
-        5 => EVERYWHERE,
-        6 => EVERYWHERE,
-        7 => EVERYWHERE,
-        8 => EVERYWHERE,
-        9 => ABOVE_LEAF,
-        10 => EVERYWHERE,
-        11 => EVERYWHERE,
-        12 => Places::Leaf,
-        13 => Places::Neighbours,
-        14 => PAIRS_ABOVE_LEAF,
-        15 => Places::Leaf,
-        _ => Places::Nowhere,
-    }
-}
-
-// Where Chrome asks a rule.
-fn chrome_places(rule: RuleNo) -> Places
-    ensures { λ r. ⌜ r ≡ chromePlaces (rule .0) ⌝ }
-{
-    let n = rule.0;
-    match n {
-        2 => EVERYWHERE,
-        3 => EVERYWHERE,
-        4 => EVERYWHERE,
-        5 => EVERYWHERE,
-        6 => EVERYWHERE,
-        8 => BELOW_ROOT,
-        9 => ABOVE_LEAF,
-        10 => EVERYWHERE,
-        11 => EVERYWHERE,
-        12 => Places::Leaf,
-        13 => Places::Neighbours,
-        14 => PAIRS_IN_BETWEEN,
-        15 => Places::Leaf,
-        16 => IN_BETWEEN,
-        17 => Places::LeafAndRoot,
-        18 => EVERYWHERE,
-        19 => Places::Root,
-        20 => Places::Root,
-        _ => Places::Nowhere,
-    }
-}
-
-// Where a policy asks a rule.
-pub fn places_of(policy: Policy, rule: RuleNo) -> Places
-    ensures { λ r. ⌜ r ≡ placesOf policy (rule .0) ⌝ }
-{
-    match policy {
-        Policy::OpenSsl => openssl_places(rule),
-        Policy::Chrome => chrome_places(rule),
-    }
 }

@@ -18,8 +18,8 @@ use Rattle.sound.proofs.Fitting.{chain-from5, policy-from5}
 use Rattle.faults.specs.declared.First.{First}
 use Rattle.faults.specs.declared.First.the-variants.{Clear, Broken as FirstBroken}
 use Rattle.rules.specs.Rules.{noLists}
-use Rattle.rules.specs.declared.Policy.{Policy}
-use Rattle.rules.specs.declared.Policy.the-variants.{OpenSsl, Chrome}
+use Rattle.policies.specs.declared.Policy.{Policy}
+use Rattle.policies.specs.declared.Policy.the-variants.{OpenSsl, Chrome}
 use Rattle.judge.specs.Judged.{NoFault, answerBy, answerWords, Outcome, Judged, OpenSslJudged, BothVerdict, ChromeJudged}
 use Rattle.judge.specs.declared.Answer.{Answer}
 use Rattle.judge.specs.declared.Answer.the-variants.{Accepted}

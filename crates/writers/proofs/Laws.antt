@@ -15,9 +15,11 @@ use Rattle.faults.specs.declared.Spot.{Spot}
 use Rattle.faults.specs.declared.Tally.{Tally}
 use Rattle.faults.proofs.Laws.{wrote-none}
 use Rattle.faults.proofs.Theorems.{reported}
-use Rattle.rules.proofs.Laws.{no-more, asks-nothing}
-use Rattle.rules.specs.Rules.{broken, asksNothing, placesOf, rules, short}
-use Rattle.rules.specs.declared.Policy.{Policy}
+use Rattle.policies.proofs.Laws.{no-more}
+use Rattle.rules.proofs.Laws.{asks-nothing}
+use Rattle.policies.specs.Tables.{placesOf, rules, short}
+use Rattle.rules.specs.Rules.{broken, asksNothing}
+use Rattle.policies.specs.declared.Policy.{Policy}
 
 -- whoever writes the index of a chain writes the whole report
 pub whole : (p : Policy) (c : Chain) (l : Lists) {n : ℕ} {old new : List ℕ} {t : Tally} → Wrote (fullIndex short (broken p c l) (placesOf p) rules n) old new t → Reported short (broken p c l) (placesOf p) n old new t

@@ -4,14 +4,15 @@ ghost use Prim.Native.Nat.{_+_, _-_};
 ghost use Rattle.faults.specs.Report.{Wrote};
 ghost use Rattle.faults.specs.Order.{Reported};
 ghost use Rattle.faults.specs.Index.{asked, each, neighbours, row, pairs, entriesAt, index};
-ghost use Rattle.rules.specs.Rules.{brokenIn, placesOf, rules, short};
+ghost use Rattle.policies.specs.Tables.{placesOf, rules, short};
+ghost use Rattle.rules.specs.Rules.{brokenIn};
 use faults::Entry;
 use faults::FEWEST;
 use faults::NONE_YET;
 use faults::Places;
 use faults::Spot;
 use faults::Tally;
-use rules::Policy;
+use policies::Policy;
 use table::CertPos;
 use table::RuleNo;
 
@@ -226,7 +227,7 @@ fn write_rule(
 ) -> Tally
     ensures { λ t. ⌜ Wrote (entriesAt (brokenIn policy (now (words .entry)) (now (bytes .entry)) (now (pwords .entry)) (now (pbytes .entry))) (placesOf policy (rule .0)) (rule .0) n) (now (report .entry)) (now (report .exit)) t ⌝ }
 {
-    let places = rules::places_of(policy, rule);
+    let places = policies::places_of(policy, rule);
     let last = faults::without(n, 1);
     let leaf = Spot::Certificate(CertPos(0));
     let root = Spot::Certificate(CertPos(last));

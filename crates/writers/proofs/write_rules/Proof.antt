@@ -6,7 +6,8 @@ use mathlib.Core.Logic.{⊎-elim}
 use borrow.Author.Needs.{needs}
 use Rattle.faults.specs.Index.{entriesAt, index}
 use Rattle.faults.proofs.Laws.{SoFar, so-far-none, so-far-more, so-far-same, so-far-done}
-use Rattle.rules.specs.Rules.{brokenIn, placesOf, rules}
+use Rattle.policies.specs.Tables.{placesOf, rules}
+use Rattle.rules.specs.Rules.{brokenIn}
 use Rattle.writers.proofs.write_rules.Statement.{statement}
 use Rattle.writers.proofs.write_rules.Tie as tie
 

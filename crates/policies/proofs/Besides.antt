@@ -5,7 +5,7 @@ use mathlib.Core.Path.{_≡_, refl, sym}
 use mathlib.Core.Logic.{_⊎_, ⊎-elim}
 use Rattle.faults.specs.declared.Places.the-variants.{Nowhere}
 use Rattle.faults.proofs.Laws.{other}
-use Rattle.rules.specs.Rules.{openSslPlaces, chromePlaces}
+use Rattle.policies.specs.Tables.{openSslPlaces, chromePlaces}
 
 -- OpenSSL asks the rules from 2 to 15 and no others.
 pub not-openssl : (r : ℕ) → (r < 2) ⊎ (15 < r) → openSslPlaces r ≡ Nowhere

@@ -2,9 +2,9 @@
 use mathlib.Core.Path.{refl}
 use Rattle.faults.specs.Places.{when}
 use Rattle.faults.proofs.Laws.{other}
-use Rattle.rules.specs.Rules.{openSslPlaces}
-use Rattle.rules.proofs.openssl_places.Statement.{statement}
-use Rattle.rules.proofs.openssl_places.Tie as tie
+use Rattle.policies.specs.Tables.{openSslPlaces}
+use Rattle.policies.proofs.openssl_places.Statement.{statement}
+use Rattle.policies.proofs.openssl_places.Tie as tie
 
 returns : tie.Need-returns
 unfolding openSslPlaces when

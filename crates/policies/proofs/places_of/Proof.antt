@@ -1,8 +1,8 @@
 -- Each policy has its own. Written by tools/reports.py. Assumes nothing.
 use borrow.Author.Needs.{needs}
-use Rattle.rules.specs.Rules.{placesOf}
-use Rattle.rules.proofs.places_of.Statement.{statement}
-use Rattle.rules.proofs.places_of.Tie as tie
+use Rattle.policies.specs.Tables.{placesOf}
+use Rattle.policies.proofs.places_of.Statement.{statement}
+use Rattle.policies.proofs.places_of.Tie as tie
 
 enum-told : tie.Need-enum-told
 enum-told c = search needs

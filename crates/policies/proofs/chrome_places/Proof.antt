@@ -2,9 +2,9 @@
 use mathlib.Core.Path.{refl}
 use Rattle.faults.specs.Places.{when}
 use Rattle.faults.proofs.Laws.{other}
-use Rattle.rules.specs.Rules.{chromePlaces}
-use Rattle.rules.proofs.chrome_places.Statement.{statement}
-use Rattle.rules.proofs.chrome_places.Tie as tie
+use Rattle.policies.specs.Tables.{chromePlaces}
+use Rattle.policies.proofs.chrome_places.Statement.{statement}
+use Rattle.policies.proofs.chrome_places.Tie as tie
 
 returns : tie.Need-returns
 unfolding chromePlaces when
