@@ -1,14 +1,12 @@
 -- What rules 17 to 20 mean: the same said with "if", "for every" and "for some", and laws that test them. Assumes nothing.
-use Prim.Native.Nat.{ℕ, _-_, _≤_, _<_}
+use Prim.Native.Nat.{_-_}
 use native.Mathlib.Omega.{arith}
-use native.Mathlib.Decide.{decLt}
 use mathlib.Core.Path.{_≡_, refl, sym, _∙_}
 use mathlib.Core.Logic.{_↔_}
 use mathlib.Core.List.{List}
-use mathlib.Core.Bool.{Bool, true, false, not, _&&_, _||_, true≢false, or-false}
+use mathlib.Core.Bool.{Bool, true, false, not, _||_, true≢false}
 use mathlib.Core.Option.{Option, none, some}
-use lib.Dec.{leb, ltb}
-use borrow.Author.Tests.{not-true, leb-true, ltb-true, le-leb, lt-leb, le-ltb, lt-ltb}
+use borrow.Author.Tests.{not-true}
 use Rattle.laws.specs.Lists.{run, rows, any}
 use Rattle.laws.specs.Optional.{ifThere}
 use Rattle.laws.proofs.Meaning.{any-some, some-any}

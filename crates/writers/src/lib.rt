@@ -1,5 +1,4 @@
 // The writers of the report: each lends the tail of the report, from its first free word on, to the next.
-ghost use mathlib.Core.Path.{_≡_};
 ghost use Prim.Native.Nat.{_+_, _-_};
 ghost use Rattle.faults.specs.Report.{Wrote};
 ghost use Rattle.faults.specs.Order.{Reported};

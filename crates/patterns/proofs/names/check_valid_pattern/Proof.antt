@@ -1,6 +1,5 @@
 use borrow.Author.Tests.{not-true, not-false}
 use mathlib.Core.Path.{sym, _∙_}
-use native.Mathlib.Omega.{arith}
 use Rattle.patterns.proofs.Hosts.{valid-plain, valid-star, valid-none, two-bytes}
 use borrow.Author.Needs.{needs}
 use Rattle.patterns.proofs.names.check_valid_pattern.Statement.{statement}
