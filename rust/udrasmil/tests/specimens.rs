@@ -20,10 +20,7 @@ fn both(plain: impl Fn(&mut [u32]) -> [u64; 8], proved: impl Fn(&mut [u32]) -> [
 
 fn openssl(chain: &Chain) -> Vec<[u32; 3]> {
     let Bundle { words, bytes } = &packed(chain);
-    both(
-        |report| plain::judge_openssl(words, bytes, report),
-        |report| udrasmil::raw::openssl(words, bytes, report),
-    )
+    both(|report| plain::judge_openssl(words, bytes, report), |report| udrasmil::raw::openssl(words, bytes, report))
 }
 
 fn chrome(chain: &Chain, lists: &Lists) -> Vec<[u32; 3]> {
