@@ -2,34 +2,21 @@
 use mathlib.Core.Path.{_≡_}
 use mathlib.Core.Logic.{_↔_}
 use mathlib.Core.Bool.{true}
-use Rattle.laws.proofs.Equal.{equal-list, list-equal}
-use Rattle.laws.proofs.Optional.{if-there-means}
 use Rattle.laws.proofs.Tests.{and-left, and-right}
 use Rattle.model.specs.Model.{Cert}
 use Rattle.names.specs.Names.{sameDn}
 use Rattle.names.specs.declared.Values.the-variants.{Normalised}
 use Rattle.names.proofs.Theorems.{same-dn-means}
-use Rattle.issuing.specs.Issuing.{keyIdIs, sameKeyId, sameSerial, checkAuthKeyId, likelyIssued}
-use Rattle.issuing.specs.Stated.{CheckAuthKeyId, LikelyIssued}
+use Rattle.auth_key_id.proofs.Theorems.{check-auth-key-id-means}
+use Rattle.issuing.specs.Issuing.{likelyIssued}
+use Rattle.issuing.specs.Stated.{LikelyIssued}
 
 module _ (issuer subject : Cert) where
-  pub check-auth-key-id-means : (checkAuthKeyId issuer subject ≡ true) ↔ CheckAuthKeyId issuer subject
-  unfolding checkAuthKeyId sameKeyId sameSerial keyIdIs
-  check-auth-key-id-means = (to, from) where
-    to : checkAuthKeyId issuer subject ≡ true → CheckAuthKeyId issuer subject
-    to h a e = let b = if-there-means _ (subject .aki) .0 h a e in (
-      λ k i s j. equal-list _ _ (if-there-means _ (issuer .ski) .0 (if-there-means _ (a .keyId) .0 (and-left (sameKeyId issuer a) _ b) k i) s j),
-      λ n i. equal-list _ _ (if-there-means _ (a .serial) .0 (and-right (sameKeyId issuer a) _ b) n i),
-    )
-
-    from : CheckAuthKeyId issuer subject → checkAuthKeyId issuer subject ≡ true
-    from f = if-there-means _ (subject .aki) .1 (λ a e. let (g, h) = f a e in rw (if-there-means (keyIdIs issuer) (a .keyId) .1 (λ k i. if-there-means _ (issuer .ski) .1 (λ s j. list-equal _ _ (g k i s j)))) (if-there-means _ (a .serial) .1 (λ n i. list-equal _ _ (h n i))))
-
   pub likely-issued-means : (likelyIssued issuer subject ≡ true) ↔ LikelyIssued issuer subject
   unfolding likelyIssued
   likely-issued-means = (to, from) where
     to : likelyIssued issuer subject ≡ true → LikelyIssued issuer subject
-    to h = (same-dn-means Normalised _ _ .0 (and-left _ _ h), check-auth-key-id-means .0 (and-right (sameDn Normalised (issuer .subject) (subject .issuer)) _ h))
+    to h = (same-dn-means Normalised _ _ .0 (and-left _ _ h), check-auth-key-id-means issuer subject .0 (and-right (sameDn Normalised (issuer .subject) (subject .issuer)) _ h))
 
     from : LikelyIssued issuer subject → likelyIssued issuer subject ≡ true
-    from (n, k) = rw (same-dn-means Normalised (issuer .subject) (subject .issuer) .1 n) (check-auth-key-id-means .1 k)
+    from (n, k) = rw (same-dn-means Normalised (issuer .subject) (subject .issuer) .1 n) (check-auth-key-id-means issuer subject .1 k)

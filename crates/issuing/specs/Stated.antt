@@ -1,16 +1,8 @@
 -- Rule 13 said with "for every", as upstream says it; that the tests mean this is proved. Assumes nothing.
-use mathlib.Core.Path.{_≡_}
-use mathlib.Core.Option.{some}
-use Rattle.model.specs.Model.{Bytes, Cert, Aki, Ski}
+use Rattle.model.specs.Model.{Cert}
 use Rattle.names.specs.Stated.{SameDn}
 use Rattle.names.specs.declared.Values.the-variants.{Normalised}
-
--- of the subject's AKI: its key id is that of an SKI of the issuer, where both exist, and its serial is the issuer's, where it has one
-abbrev pub CheckAuthKeyId : Cert → Cert → Type 0
-CheckAuthKeyId issuer subject =
-    (a : Aki)
-    → subject .aki ≡ some a
-    → ((k : Bytes) → a .keyId ≡ some k → (s : Ski) → issuer .ski ≡ some s → s .keyId ≡ k) × ((n : Bytes) → a .serial ≡ some n → issuer .serial ≡ n)
+use Rattle.auth_key_id.specs.Stated.{CheckAuthKeyId}
 
 -- the names are the same normalised, and the AKI agrees
 abbrev pub LikelyIssued : Cert → Cert → Type 0

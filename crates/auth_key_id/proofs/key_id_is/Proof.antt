@@ -1,9 +1,9 @@
 use mathlib.Core.Path.{_∙_}
 use borrow.Author.Needs.{needs}
 use Rattle.model.proofs.Optional.{absent-passes, present-passes}
-use Rattle.issuing.specs.Issuing.{keyIdIs}
-use Rattle.issuing.proofs.key_id_is.Statement.{statement}
-use Rattle.issuing.proofs.key_id_is.Tie as tie
+use Rattle.auth_key_id.specs.AuthKeyId.{keyIdIs}
+use Rattle.auth_key_id.proofs.key_id_is.Statement.{statement}
+use Rattle.auth_key_id.proofs.key_id_is.Tie as tie
 
 cert-word-requires : tie.Need-cert-word-requires
 cert-word-requires c κs = search needs

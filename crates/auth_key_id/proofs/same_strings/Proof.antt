@@ -1,6 +1,6 @@
 use borrow.Author.Needs.{needs}
-use Rattle.issuing.proofs.same_strings.Statement.{statement}
-use Rattle.issuing.proofs.same_strings.Tie as tie
+use Rattle.auth_key_id.proofs.same_strings.Statement.{statement}
+use Rattle.auth_key_id.proofs.same_strings.Tie as tie
 
 string-requires : tie.Need-string-requires
 string-requires c κs = search needs
