@@ -26,7 +26,7 @@ HOMES = {
     "issuerSubjectUidVersion": "Rattle.fields.specs.Uids",
     "keyUsageNonEmpty": "Rattle.fields.specs.KeyUsage",
     "checkCertKeyLevel": "Rattle.fields.specs.KeyLevel",
-    "checkAuthSubjectKeyId": "Rattle.parts.specs.KeyIds",
+    "checkAuthSubjectKeyId": "Rattle.key_ids.specs.KeyIds",
     "checkPurpose": "Rattle.purpose.specs.Purpose",
     "extendedKeyUsageValid": "Rattle.purpose.specs.Purpose",
     "ServerOrAny": "Rattle.purpose.specs.declared.Serving.the-variants",

@@ -1,7 +1,7 @@
 -- What a word of 0 leaves out: a part that is absent, and one that is there. Assumes nothing.
 use Prim.Native.Nat.{ℕ}
-use mathlib.Core.Path.{_≡_, refl, _∙_}
-use mathlib.Core.Bool.{Bool, true, false, not}
+use mathlib.Core.Path.{_≡_, refl, sym, ap, _∙_}
+use mathlib.Core.Bool.{Bool, true, false, not, _&&_, _||_, Bool·not-not}
 use mathlib.Core.Option.{none, some}
 use lib.Dec.{eqb}
 use borrow.Author.Tests.{eq-eqb, ne-eqb}
@@ -39,3 +39,27 @@ module _ {A : Type 0} (c : ℕ) (x : A) where
 
     pub present-and : {r : Bool} → (c ≡ 0 → ⊥) → r ≡ p x → r ≡ thereAnd p (unlessZero c x)
     present-and e h = h ∙ rw (present e) refl
+
+-- a part x, there unless the word w is 0; c is the word as it was read
+module _ {A : Type 0} (w : ℕ) (x : A) {c : ℕ} (e : c ≡ w) where
+  pub is-there : not (eqb c 0) ≡ isThere (unlessZero w x)
+  is-there = rw e (there-is w x)
+
+  pub is-absent : eqb c 0 ≡ not (isThere (unlessZero w x))
+  is-absent = sym (Bool·not-not (eqb c 0)) ∙ ap not is-there
+
+  -- r is what the part answers
+  module _ (p : A → Bool) {r : Bool} (h : r ≡ p x) where
+    pub passes : (eqb c 0 || r) ≡ ifThere p (unlessZero w x)
+    unfolding unlessZero
+    passes = rw (e, h) (go (eqb w 0)) where
+      go : (t : Bool) → (t || p x) ≡ ifThere p (pick t none (some x))
+      go true = refl
+      go false = refl
+
+    pub there-passes : (not (eqb c 0) && r) ≡ thereAnd p (unlessZero w x)
+    unfolding unlessZero
+    there-passes = rw (e, h) (go (eqb w 0)) where
+      go : (t : Bool) → (not t && p x) ≡ thereAnd p (pick t none (some x))
+      go true = refl
+      go false = refl

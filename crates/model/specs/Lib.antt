@@ -1,3 +1,4 @@
 pub mod Decode
+pub mod Marks
 pub mod Model
 pub mod Sections

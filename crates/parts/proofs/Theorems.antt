@@ -1,39 +1,26 @@
--- What rules 7 and 9 to 12 mean: the same said another way, document 01's easy slips, and its specimens of path lengths. Assumes nothing.
+-- What rules 9 to 12 mean: the same said another way, document 01's easy slips, and its specimens of path lengths. Assumes nothing.
 use Prim.Native.Nat.{ℕ, zero, suc, _-_, _≤_, _<_}
 use native.Mathlib.Omega.{arith}
 use mathlib.Core.Path.{_≡_, refl}
 use mathlib.Core.Logic.{_↔_}
 use mathlib.Core.List.{List, [], _∷_}
 use mathlib.Core.Bool.{Bool, true, false, not, _||_, false≢true}
-use mathlib.Core.Option.{some}
 use lib.Dec.{T, eqb}
 use lib.IntN.{ℤ, pos, negsuc}
 use lib.ListN.{length}
 use lib.Signed.{leZ, _≤ℤ_}
-use borrow.Author.Tests.{ne-eqb, lt-leb}
+use borrow.Author.Tests.{ne-eqb}
 use Rattle.laws.specs.Lists.{isEmpty}
 use Rattle.laws.specs.Optional.{thereAnd}
 use Rattle.laws.proofs.Optional.{if-there-means, there-and-means}
 use Rattle.laws.proofs.Tests.{and-left, and-right}
-use Rattle.model.specs.Model.{Mark, noMark, notCritical, critical, Name, Cert, Aki, Bc, San}
+use Rattle.model.specs.Model.{Mark, noMark, notCritical, critical, Name, Cert, Bc, San}
 use Rattle.parts.specs.Ca.{checkCa}
 use Rattle.parts.specs.EmptySubject.{emptySubjectImpliesCriticalSan}
-use Rattle.parts.specs.KeyIds.{idsNotCritical, hasNoParts, checkAuthSubjectKeyId}
-use Rattle.parts.specs.Marks.{isCritical}
+use Rattle.model.specs.Marks.{isCritical}
 use Rattle.parts.specs.PathLength.{longEnough, pathLengthHolds}
 use Rattle.parts.specs.SanNames.{checkSan}
 use Rattle.parts.specs.Stated.{CheckCa, PathLengthHolds, CheckSan, EmptySubjectImpliesCriticalSan}
-
--- ---- rule 7
--- below version 2 a certificate without parts passes, at the leaf without AKI too
-pub old-passes : (root leaf : Bool) (c : Cert) → c .version < 2 → idsNotCritical c ≡ true → hasNoParts c ≡ true → checkAuthSubjectKeyId root leaf c ≡ true
-unfolding checkAuthSubjectKeyId
-old-passes root leaf c l h n = rw (h, lt-leb 2 (c .version) l) n
-
--- a critical AKI breaks it at any version
-pub critical-breaks : (root leaf : Bool) (c : Cert) (a : Aki) → c .aki ≡ some a → a .mark ≡ critical → checkAuthSubjectKeyId root leaf c ≡ false
-unfolding checkAuthSubjectKeyId idsNotCritical isCritical
-critical-breaks root leaf c a e m = rw (e, m) refl
 
 -- ---- rule 9
 pub check-ca-means : (c : Cert) → (checkCa c ≡ true) ↔ CheckCa c

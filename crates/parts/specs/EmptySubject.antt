@@ -3,7 +3,7 @@ use mathlib.Core.Bool.{Bool, not, _||_}
 use Rattle.laws.specs.Lists.{isEmpty}
 use Rattle.laws.specs.Optional.{thereAnd}
 use Rattle.model.specs.Model.{Cert, San}
-use Rattle.parts.specs.Marks.{isCritical}
+use Rattle.model.specs.Marks.{isCritical}
 
 -- an empty subject, one without an RDN, needs a critical SAN
 unfoldable pub emptySubjectImpliesCriticalSan : Cert → Bool

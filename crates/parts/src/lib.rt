@@ -1,13 +1,10 @@
-// Rules 7 and 9 to 12: the parts of one certificate. A module a rule.
+// Rules 9 to 12: the parts of one certificate. A module a rule.
 pub mod ca;
 pub mod empty_subject;
-pub mod key_ids;
 pub mod path_length;
 pub mod san;
 
 // The words of a certificate that several rules read.
-const EKU: u64 = 21;
-
 const BC: u64 = 24;
 
 const KU: u64 = 28;

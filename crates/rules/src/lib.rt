@@ -126,7 +126,7 @@ fn holds_at(
         4 => fields::uids::issuer_subject_uid_version(words, bytes, c),
         5 => fields::key_usage::key_usage_non_empty(words, bytes, c),
         6 => key_holds(policy, words, bytes, c),
-        7 => parts::key_ids::check_auth_subject_key_id(words, bytes, root, leaf, c),
+        7 => key_ids::check_auth_subject_key_id(words, bytes, root, leaf, c),
         8 => purpose_holds(policy, words, bytes, leaf, c),
         9 => parts::ca::check_ca(words, bytes, c),
         10 => parts::path_length::path_length_holds(words, bytes, i, c),

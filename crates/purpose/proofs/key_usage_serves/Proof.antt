@@ -2,7 +2,7 @@ use mathlib.Core.Path.{refl}
 use borrow.Author.Needs.{needs}
 use Rattle.model.specs.Decode.{bitOf}
 use Rattle.purpose.specs.Purpose.{keyUsageServes}
-use Rattle.parts.proofs.Laws.{passes}
+use Rattle.model.proofs.Optional.{passes}
 use Rattle.purpose.proofs.key_usage_serves.Statement.{statement}
 use Rattle.purpose.proofs.key_usage_serves.Tie as tie
 

@@ -3,7 +3,7 @@ use mathlib.Core.Bool.{_&&_}
 use borrow.Author.Needs.{needs}
 use Rattle.model.specs.Decode.{flagOf, bitOf}
 use Rattle.parts.specs.Ca.{checkCa}
-use Rattle.parts.proofs.Laws.{passes, there-passes}
+use Rattle.model.proofs.Optional.{passes, there-passes}
 use Rattle.parts.proofs.ca.check_ca.Statement.{statement}
 use Rattle.parts.proofs.ca.check_ca.Tie as tie
 

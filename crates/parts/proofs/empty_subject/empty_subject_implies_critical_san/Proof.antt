@@ -2,7 +2,8 @@ use mathlib.Core.Path.{refl, ap₂}
 use mathlib.Core.Bool.{_||_}
 use borrow.Author.Needs.{needs}
 use Rattle.parts.specs.EmptySubject.{emptySubjectImpliesCriticalSan}
-use Rattle.parts.proofs.Laws.{some-row, is-critical}
+use Rattle.model.proofs.Marks.{is-critical}
+use Rattle.parts.proofs.Laws.{some-row}
 use Rattle.parts.proofs.empty_subject.empty_subject_implies_critical_san.Statement.{
   statement,
 }

@@ -1,7 +1,8 @@
 use borrow.Author.Needs.{needs}
 use Rattle.model.specs.Decode.{generalsIn}
 use Rattle.parts.specs.SanNames.{checkSan}
-use Rattle.parts.proofs.Laws.{passes, some-row}
+use Rattle.model.proofs.Optional.{passes}
+use Rattle.parts.proofs.Laws.{some-row}
 use Rattle.parts.proofs.san.check_san.Statement.{statement}
 use Rattle.parts.proofs.san.check_san.Tie as tie
 

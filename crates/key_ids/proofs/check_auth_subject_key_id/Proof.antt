@@ -1,9 +1,9 @@
 use borrow.Author.Needs.{needs}
 use Rattle.laws.proofs.Tests.{and-then, and-stop}
-use Rattle.parts.specs.KeyIds.{checkAuthSubjectKeyId}
-use Rattle.parts.proofs.Laws.{from-two, below-two}
-use Rattle.parts.proofs.key_ids.check_auth_subject_key_id.Statement.{statement}
-use Rattle.parts.proofs.key_ids.check_auth_subject_key_id.Tie as tie
+use Rattle.key_ids.specs.KeyIds.{checkAuthSubjectKeyId}
+use Rattle.key_ids.proofs.Laws.{from-two, below-two}
+use Rattle.key_ids.proofs.check_auth_subject_key_id.Statement.{statement}
+use Rattle.key_ids.proofs.check_auth_subject_key_id.Tie as tie
 
 ids-not-critical-requires : tie.Need-ids-not-critical-requires
 ids-not-critical-requires c κs = search needs

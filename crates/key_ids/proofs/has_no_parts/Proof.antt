@@ -1,10 +1,11 @@
 use mathlib.Core.Path.{ap₂}
 use mathlib.Core.Bool.{_&&_}
 use borrow.Author.Needs.{needs}
-use Rattle.parts.specs.KeyIds.{hasNoParts}
-use Rattle.parts.proofs.Laws.{no-extensions, is-absent}
-use Rattle.parts.proofs.key_ids.has_no_parts.Statement.{statement}
-use Rattle.parts.proofs.key_ids.has_no_parts.Tie as tie
+use Rattle.key_ids.specs.KeyIds.{hasNoParts}
+use Rattle.model.proofs.Optional.{is-absent}
+use Rattle.key_ids.proofs.Laws.{no-extensions}
+use Rattle.key_ids.proofs.has_no_parts.Statement.{statement}
+use Rattle.key_ids.proofs.has_no_parts.Tie as tie
 
 cert-word-requires : tie.Need-cert-word-requires
 cert-word-requires c κs = search needs

@@ -4,7 +4,7 @@ use lib.Dec.{leb}
 use Rattle.laws.specs.Lists.{pick}
 use Rattle.laws.specs.Optional.{ifThere, thereAnd, isThere}
 use Rattle.model.specs.Model.{Extensions, noExtensions, someExtensions, Cert, Aki, Ski}
-use Rattle.parts.specs.Marks.{isCritical}
+use Rattle.model.specs.Marks.{isCritical}
 
 -- AKI and SKI, if present, are not critical
 unfoldable pub idsNotCritical : Cert → Bool

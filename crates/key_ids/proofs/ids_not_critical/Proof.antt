@@ -1,10 +1,10 @@
 use mathlib.Core.Path.{refl, ap₂}
 use mathlib.Core.Bool.{_&&_}
 use borrow.Author.Needs.{needs}
-use Rattle.parts.specs.KeyIds.{idsNotCritical}
-use Rattle.parts.proofs.Laws.{not-critical}
-use Rattle.parts.proofs.key_ids.ids_not_critical.Statement.{statement}
-use Rattle.parts.proofs.key_ids.ids_not_critical.Tie as tie
+use Rattle.key_ids.specs.KeyIds.{idsNotCritical}
+use Rattle.model.proofs.Marks.{not-critical}
+use Rattle.key_ids.proofs.ids_not_critical.Statement.{statement}
+use Rattle.key_ids.proofs.ids_not_critical.Tie as tie
 
 cert-word-requires : tie.Need-cert-word-requires
 cert-word-requires c κs = search needs

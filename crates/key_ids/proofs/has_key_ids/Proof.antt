@@ -2,10 +2,11 @@ use borrow.Author.Needs.{needs}
 use Rattle.laws.specs.Optional.{isThere}
 use Rattle.model.specs.Model.{Aki}
 use Rattle.model.specs.Decode.{optionalString}
-use Rattle.parts.specs.KeyIds.{hasKeyIds}
-use Rattle.parts.proofs.Laws.{unless-both, is-there, there-passes}
-use Rattle.parts.proofs.key_ids.has_key_ids.Statement.{statement}
-use Rattle.parts.proofs.key_ids.has_key_ids.Tie as tie
+use Rattle.key_ids.specs.KeyIds.{hasKeyIds}
+use Rattle.model.proofs.Optional.{is-there, there-passes}
+use Rattle.key_ids.proofs.Laws.{unless-both}
+use Rattle.key_ids.proofs.has_key_ids.Statement.{statement}
+use Rattle.key_ids.proofs.has_key_ids.Tie as tie
 
 cert-word-requires : tie.Need-cert-word-requires
 cert-word-requires c κs = search needs
