@@ -3,7 +3,7 @@ use native.Mathlib.Omega.{arith}
 use mathlib.Core.Path.{_≡_, refl}
 use mathlib.Core.Bool.{false}
 use Rattle.laws.specs.Lists.{any, all, each, rows, run}
-use Rattle.text.specs.Bytes.{lowerByte}
+use Rattle.ascii.specs.Bytes.{lowerByte}
 use Rattle.text.specs.Texts.{Text, quoted, lowered, startsWith, endsWith, covers}
 use Rattle.patterns.specs.Address.{maskedEqual, agreesAt, inRange, ipAddrInRange}
 use Rattle.patterns.specs.Patterns.{matchName, oneLabel, finalDotOff, cleanName, permitName}

@@ -1,8 +1,8 @@
 use native.Mathlib.Omega.{arith}
-use Rattle.text.proofs.Chars.{entry-class}
+use Rattle.ascii.proofs.Chars.{entry-class}
 use borrow.Author.Needs.{needs}
-use Rattle.text.proofs.class_of.Statement.{statement}
-use Rattle.text.proofs.class_of.Tie as tie
+use Rattle.ascii.proofs.class_of.Statement.{statement}
+use Rattle.ascii.proofs.class_of.Tie as tie
 
 whole-requires : tie.Need-whole-requires
 whole-requires c κs = search needs

@@ -1,9 +1,9 @@
 use mathlib.Core.Path.{refl}
 use Rattle.laws.specs.Lists.{each, rows, run}
 use Rattle.laws.proofs.Equal.{equal-list}
-use Rattle.text.specs.Bytes.{wholeTable, entryOf, classOf, lowerByte}
-use Rattle.text.proofs.byte_table.whole.Statement.{statement}
-use Rattle.text.proofs.byte_table.whole.Tie as tie
+use Rattle.ascii.specs.Bytes.{wholeTable, entryOf, classOf, lowerByte}
+use Rattle.ascii.proofs.byte_table.whole.Statement.{statement}
+use Rattle.ascii.proofs.byte_table.whole.Tie as tie
 
 returns : tie.Need-returns
 unfolding each rows run wholeTable entryOf classOf lowerByte

@@ -3,9 +3,9 @@ use mathlib.Core.Path.{refl}
 use lib.Dec.{leb}
 use borrow.Author.Tests.{leb-true}
 use Rattle.laws.proofs.Tests.{and-right}
-use Rattle.text.specs.Bytes.{lowerByte}
-use Rattle.text.proofs.lower.Statement.{statement}
-use Rattle.text.proofs.lower.Tie as tie
+use Rattle.ascii.specs.Bytes.{lowerByte}
+use Rattle.ascii.proofs.lower.Statement.{statement}
+use Rattle.ascii.proofs.lower.Tie as tie
 
 add-result : tie.Need-add-result
 add-result c = let x = c .before .args .x in omega (arith, leb-true x 90 (and-right (leb 65 x) (leb x 90) (c .if1 .taken)))

@@ -1,7 +1,7 @@
 use borrow.Author.Needs.{needs}
-use Rattle.text.proofs.Blocks.{any-eight}
-use Rattle.text.proofs.has_high_eight.Statement.{statement}
-use Rattle.text.proofs.has_high_eight.Tie as tie
+use Rattle.ascii.proofs.Blocks.{any-eight}
+use Rattle.ascii.proofs.has_high_eight.Statement.{statement}
+use Rattle.ascii.proofs.has_high_eight.Tie as tie
 
 shared-slice-read-result : tie.Need-shared-slice-read-result
 shared-slice-read-result c = search needs

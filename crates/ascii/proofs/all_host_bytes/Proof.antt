@@ -3,12 +3,12 @@ use Prim.Native.Nat.{_-_}
 use mathlib.Core.Path.{_≡_}
 use borrow.Author.Needs.{needs}
 use lib.ListN.{length}
-use Rattle.text.specs.Bytes.{isHostByte}
+use Rattle.ascii.specs.Bytes.{isHostByte}
 use Rattle.laws.specs.Lists.{rows, all}
 use Rattle.laws.proofs.Rows.{at}
 use Rattle.laws.proofs.Loops.{all-here, all-next, all-none, all-start}
-use Rattle.text.proofs.all_host_bytes.Statement.{statement}
-use Rattle.text.proofs.all_host_bytes.Tie as tie
+use Rattle.ascii.proofs.all_host_bytes.Statement.{statement}
+use Rattle.ascii.proofs.all_host_bytes.Tie as tie
 
 abbrev Inv-loop : tie.InvT-loop
 Inv-loop s table i₀ i = all isHostByte s ≡ all isHostByte (rows (at 0 s) i (length s))

@@ -1,7 +1,7 @@
 // The table of bytes. Written by tools/byte_table.py.
 ghost use mathlib.Core.Path.{_≡_};
 ghost use lib.ListN.{getD};
-ghost use Rattle.text.specs.Bytes.{wholeTable};
+ghost use Rattle.ascii.specs.Bytes.{wholeTable};
 
 // For each byte its class, times 256, and its lower-case form.
 const TABLE: [u16; 256] = [

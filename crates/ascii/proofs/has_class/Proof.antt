@@ -4,12 +4,12 @@ use mathlib.Core.Path.{_≡_}
 use borrow.Author.Needs.{needs}
 use lib.ListN.{length}
 use lib.Dec.{eqb}
-use Rattle.text.specs.Bytes.{classOf}
+use Rattle.ascii.specs.Bytes.{classOf}
 use Rattle.laws.specs.Lists.{rows, any}
 use Rattle.laws.proofs.Rows.{at}
 use Rattle.laws.proofs.Loops.{any-here, any-next, any-none, any-start}
-use Rattle.text.proofs.has_class.Statement.{statement}
-use Rattle.text.proofs.has_class.Tie as tie
+use Rattle.ascii.proofs.has_class.Statement.{statement}
+use Rattle.ascii.proofs.has_class.Tie as tie
 
 abbrev Inv-loop : tie.InvT-loop
 Inv-loop s class table i₀ i = any (λ x. eqb (classOf x) class) s ≡ any (λ x. eqb (classOf x) class) (rows (at 0 s) i (length s))

@@ -3,10 +3,10 @@ use native.Mathlib.Omega.{arith}
 use mathlib.Core.Path.{_≡_}
 use borrow.Author.Needs.{needs}
 use lib.ListN.{length}
-use Rattle.text.specs.Bytes.{isHigh}
-use Rattle.text.proofs.Blocks.{NoneTo, none-yet, block-here, block-next, block-last}
-use Rattle.text.proofs.has_high.Statement.{statement}
-use Rattle.text.proofs.has_high.Tie as tie
+use Rattle.ascii.specs.Bytes.{isHigh}
+use Rattle.ascii.proofs.Blocks.{NoneTo, none-yet, block-here, block-next, block-last}
+use Rattle.ascii.proofs.has_high.Statement.{statement}
+use Rattle.ascii.proofs.has_high.Tie as tie
 
 -- none of the bytes that were passed is high
 abbrev Inv-loop : tie.InvT-loop

@@ -6,9 +6,9 @@ use lib.ListN.{length}
 use Rattle.laws.specs.Lists.{rows, any}
 use Rattle.laws.proofs.Rows.{at}
 use Rattle.laws.proofs.Loops.{any-start, any-more, any-counted}
-use Rattle.text.specs.Bytes.{isHigh}
-use Rattle.text.proofs.has_high_few.Statement.{statement}
-use Rattle.text.proofs.has_high_few.Tie as tie
+use Rattle.ascii.specs.Bytes.{isHigh}
+use Rattle.ascii.proofs.has_high_few.Statement.{statement}
+use Rattle.ascii.proofs.has_high_few.Tie as tie
 
 abbrev Inv-loop : tie.InvT-loop
 Inv-loop s high₀ i₀ high i = any isHigh s ≡ (high || any isHigh (rows (at 0 s) i (length s)))

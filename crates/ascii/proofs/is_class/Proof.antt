@@ -2,10 +2,10 @@ use native.Mathlib.Omega.{arith}
 use mathlib.Core.Path.{ap}
 use Prim.Native.Nat.{ℕ}
 use lib.Dec.{eqb}
-use Rattle.text.proofs.Chars.{entry-class}
+use Rattle.ascii.proofs.Chars.{entry-class}
 use borrow.Author.Needs.{needs}
-use Rattle.text.proofs.is_class.Statement.{statement}
-use Rattle.text.proofs.is_class.Tie as tie
+use Rattle.ascii.proofs.is_class.Statement.{statement}
+use Rattle.ascii.proofs.is_class.Tie as tie
 
 entry-in-requires : tie.Need-entry-in-requires
 entry-in-requires c κs = search needs

@@ -12,7 +12,7 @@ use lib.ListN.{getD}
 use Rattle.laws.specs.Lists.{all, numbers, rows, run, pick}
 use Rattle.laws.proofs.Meaning.{all-every}
 use Rattle.laws.proofs.Rows.{rows-at}
-use Rattle.text.specs.Bytes.{isUpper, isDot, isStar, isSpace, isHostByte, lowerByte, classOf, entryOf, wholeTable, letter, dot, star, space, high}
+use Rattle.ascii.specs.Bytes.{isUpper, isDot, isStar, isSpace, isHostByte, lowerByte, classOf, entryOf, wholeTable, letter, dot, star, space, high}
 
 -- ---- one law carries what is tested on the first numbers to each of them
 pub tested : (f : ℕ → Bool) (n : ℕ) → all f (numbers 0 n) ≡ true → (x : ℕ) → x < n → f x ≡ true

@@ -3,11 +3,11 @@ use Prim.Native.Nat.{ℕ}
 use mathlib.Core.Path.{ap, _∙_}
 use mathlib.Core.Bool.{_&&_}
 use lib.Dec.{leb}
-use Rattle.text.specs.Bytes.{letter, dot}
-use Rattle.text.proofs.Chars.{entry-class, class-host}
+use Rattle.ascii.specs.Bytes.{letter, dot}
+use Rattle.ascii.proofs.Chars.{entry-class, class-host}
 use borrow.Author.Needs.{needs}
-use Rattle.text.proofs.is_host_byte.Statement.{statement}
-use Rattle.text.proofs.is_host_byte.Tie as tie
+use Rattle.ascii.proofs.is_host_byte.Statement.{statement}
+use Rattle.ascii.proofs.is_host_byte.Tie as tie
 
 entry-in-requires : tie.Need-entry-in-requires
 entry-in-requires c κs = search needs
