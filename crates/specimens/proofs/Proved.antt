@@ -10,7 +10,7 @@ use Rattle.patterns.specs.Patterns.{matchName, oneLabel, finalDotOff, cleanName
 use Rattle.calendar.specs.Spans.{spanValid}
 use Rattle.patterns.proofs.Ranges.{other-lengths}
 use Rattle.sans.specs.Sans.{isKind, dnsAnd}
-use Rattle.covering.specs.Covers.{dnsCovers, overDns}
+use Rattle.covering_dns.specs.Covers.{dnsCovers, overDns}
 use Rattle.constraints.specs.Match.{allowed, checkDnsNameConstraints, askedName, ncMatch}
 use Rattle.constraints.specs.Keeps.{checkSanConstraints}
 use Rattle.specimens.specs.Specimens.{Specimens}

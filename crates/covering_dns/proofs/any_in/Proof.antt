@@ -4,10 +4,10 @@ use mathlib.Core.Path.{_≡_, refl}
 use borrow.Author.Needs.{needs}
 use Rattle.laws.specs.Lists.{rows, any}
 use Rattle.model.specs.Decode.{generalAt}
-use Rattle.covering.specs.Covers.{overDns}
+use Rattle.covering_dns.specs.Covers.{overDns}
 use Rattle.laws.proofs.Loops.{any-here, any-next, any-none}
-use Rattle.covering.proofs.dns.any_in.Statement.{statement}
-use Rattle.covering.proofs.dns.any_in.Tie as tie
+use Rattle.covering_dns.proofs.any_in.Statement.{statement}
+use Rattle.covering_dns.proofs.any_in.Tie as tie
 
 abbrev Inv-loop : tie.InvT-loop
 Inv-loop words bytes at first v name e i₀ i = any (overDns v name) (rows (generalAt words bytes) i₀ e) ≡ any (overDns v name) (rows (generalAt words bytes) i e)

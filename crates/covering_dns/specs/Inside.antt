@@ -5,7 +5,7 @@ use mathlib.Core.List.{List}
 use lib.ListN.{length}
 use Rattle.table.specs.Table.{offsetOf, strings}
 use Rattle.model.specs.Sections.{names}
-use Rattle.covering.specs.declared.dns.Rows.{Rows}
+use Rattle.covering_dns.specs.declared.Rows.{Rows}
 
 -- the names below an end and all strings lie inside the words, and begin where the header says
 pub record Inside (w : List ℕ) (l : Rows) : Type 0 where

@@ -1,7 +1,7 @@
-use Rattle.covering.proofs.Laws.{lowered-covers, cleaned-covers}
+use Rattle.covering_dns.proofs.Laws.{lowered-covers, cleaned-covers}
 use borrow.Author.Needs.{needs}
-use Rattle.covering.proofs.dns.dns_covers.Statement.{statement}
-use Rattle.covering.proofs.dns.dns_covers.Tie as tie
+use Rattle.covering_dns.proofs.dns_covers.Statement.{statement}
+use Rattle.covering_dns.proofs.dns_covers.Tie as tie
 
 enum-told : tie.Need-enum-told
 enum-told c = search needs

@@ -1,7 +1,7 @@
-use Rattle.covering.proofs.Laws.{text-at, string-at}
+use Rattle.covering_dns.proofs.Laws.{text-at, string-at}
 use borrow.Author.Needs.{needs}
-use Rattle.covering.proofs.dns.text_in.Statement.{statement}
-use Rattle.covering.proofs.dns.text_in.Tie as tie
+use Rattle.covering_dns.proofs.text_in.Statement.{statement}
+use Rattle.covering_dns.proofs.text_in.Tie as tie
 
 mul-x : tie.Need-mul-x
 mul-x c = search needs

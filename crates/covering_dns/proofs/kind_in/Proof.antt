@@ -1,7 +1,7 @@
-use Rattle.covering.proofs.Laws.{kind-at}
+use Rattle.covering_dns.proofs.Laws.{kind-at}
 use borrow.Author.Needs.{needs}
-use Rattle.covering.proofs.dns.kind_in.Statement.{statement}
-use Rattle.covering.proofs.dns.kind_in.Tie as tie
+use Rattle.covering_dns.proofs.kind_in.Statement.{statement}
+use Rattle.covering_dns.proofs.kind_in.Tie as tie
 
 mul-result : tie.Need-mul-result
 mul-result c = search needs

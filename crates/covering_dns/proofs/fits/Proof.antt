@@ -2,8 +2,8 @@ use mathlib.Core.Bool.{false≢true}
 use borrow.Author.Tests.{leb-true}
 use Rattle.table.proofs.Laws.{ends-inside}
 use borrow.Author.Needs.{needs}
-use Rattle.covering.proofs.dns.fits.Statement.{statement}
-use Rattle.covering.proofs.dns.fits.Tie as tie
+use Rattle.covering_dns.proofs.fits.Statement.{statement}
+use Rattle.covering_dns.proofs.fits.Tie as tie
 
 returns : tie.Need-returns
 returns c = λ e. absurd (false≢true e)

@@ -4,10 +4,10 @@ use mathlib.Core.Path.{_≡_, refl}
 use borrow.Author.Needs.{needs}
 use Rattle.laws.specs.Lists.{rows, any}
 use Rattle.model.specs.Decode.{generalAt, generalsIn}
-use Rattle.covering.specs.Covers.{overDns}
+use Rattle.covering_dns.specs.Covers.{overDns}
 use Rattle.laws.proofs.Loops.{any-here, any-next, any-none}
-use Rattle.covering.proofs.dns.any_slow.Statement.{statement}
-use Rattle.covering.proofs.dns.any_slow.Tie as tie
+use Rattle.covering_dns.proofs.any_slow.Statement.{statement}
+use Rattle.covering_dns.proofs.any_slow.Tie as tie
 
 abbrev Inv-loop : tie.InvT-loop
 Inv-loop words bytes v name e i₀ i = any (overDns v name) (generalsIn words bytes (record { from = i₀; to = e })) ≡ any (overDns v name) (rows (generalAt words bytes) i e)

@@ -14,9 +14,9 @@ use Rattle.model.specs.Sections.{names}
 use Rattle.model.specs.Decode.{generalOf, kindAt, nameText}
 use Rattle.sans.specs.declared.Kind.the-variants.{Dns}
 use Rattle.sans.proofs.Laws.{kind-is, dns-then, dns-other}
-use Rattle.covering.specs.declared.dns.Covering.{Covering}
-use Rattle.covering.specs.declared.dns.Covering.the-variants.{Lowered, Cleaned}
-use Rattle.covering.specs.Covers.{dnsCovers, overDns}
+use Rattle.covering_dns.specs.declared.Covering.{Covering}
+use Rattle.covering_dns.specs.declared.Covering.the-variants.{Lowered, Cleaned}
+use Rattle.covering_dns.specs.Covers.{dnsCovers, overDns}
 
 module _ (v : Covering) (c n : Bytes) {r : Bool} where
   pub lowered-covers : v ≡ Lowered → r ≡ matchDnsName c n → r ≡ dnsCovers v c n

@@ -1,11 +1,11 @@
-// DNS names. Hundreds of them may meet hundreds of constraints, so that whether the rows lie inside the words is tested once for a name.
+// Whether some constraint of a range covers a DNS name. Hundreds of names may meet hundreds of constraints, so that whether the rows lie inside the words is tested once for a name.
 ghost use mathlib.Core.Path.{_≡_};
 ghost use mathlib.Core.Bool.{true};
 ghost use Prim.Native.Nat.{_+_, _*_, _≤_, _<_};
 ghost use Rattle.laws.specs.Lists.{any, rows};
 ghost use Rattle.model.specs.Decode.{kindAt, nameText, generalAt, generalsIn};
-ghost use Rattle.covering.specs.Covers.{dnsCovers, overDns};
-ghost use Rattle.covering.specs.Inside.{Inside};
+ghost use Rattle.covering_dns.specs.Covers.{dnsCovers, overDns};
+ghost use Rattle.covering_dns.specs.Inside.{Inside};
 use model::chain::NAMES;
 use model::chain::NameNo;
 use sans::Kind;

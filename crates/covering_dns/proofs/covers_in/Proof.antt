@@ -1,7 +1,7 @@
-use Rattle.covering.proofs.Laws.{kind-dns, kind-no-dns}
+use Rattle.covering_dns.proofs.Laws.{kind-dns, kind-no-dns}
 use borrow.Author.Needs.{needs}
-use Rattle.covering.proofs.dns.covers_in.Statement.{statement}
-use Rattle.covering.proofs.dns.covers_in.Tie as tie
+use Rattle.covering_dns.proofs.covers_in.Statement.{statement}
+use Rattle.covering_dns.proofs.covers_in.Tie as tie
 
 kind-in-requires : tie.Need-kind-in-requires
 kind-in-requires c κs = search needs

@@ -1,8 +1,8 @@
 use Rattle.sans.proofs.Laws.{dns-then, dns-other}
-use Rattle.covering.specs.Covers.{overDns}
+use Rattle.covering_dns.specs.Covers.{overDns}
 use borrow.Author.Needs.{needs}
-use Rattle.covering.proofs.dns.covers.Statement.{statement}
-use Rattle.covering.proofs.dns.covers.Tie as tie
+use Rattle.covering_dns.proofs.covers.Statement.{statement}
+use Rattle.covering_dns.proofs.covers.Tie as tie
 
 is-kind-requires : tie.Need-is-kind-requires
 is-kind-requires c κs = search needs

@@ -1,7 +1,7 @@
 use Rattle.model.specs.Decode.{generalsIn}
 use borrow.Author.Needs.{needs}
-use Rattle.covering.proofs.dns.any_dns.Statement.{statement}
-use Rattle.covering.proofs.dns.any_dns.Tie as tie
+use Rattle.covering_dns.proofs.any_dns.Statement.{statement}
+use Rattle.covering_dns.proofs.any_dns.Tie as tie
 
 offset-requires : tie.Need-offset-requires
 offset-requires c κs = search needs
