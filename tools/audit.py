@@ -15,10 +15,10 @@ AUDIT = "docs/AUDIT.md"
 
 # Functions that take plain numbers, and what these are: none names a string, a certificate or a rule.
 NUMBERS = {
-    "text::byte_table::entry_in": {"x": "a byte"},
-    "text::lower": {"x": "a byte"},
-    "text::class_of": {"x": "a byte"},
-    "text::has_class": {"class": "a class of bytes"},
+    "ascii::byte_table::entry_in": {"x": "a byte"},
+    "ascii::lower": {"x": "a byte"},
+    "ascii::class_of": {"x": "a byte"},
+    "ascii::has_class": {"class": "a class of bytes"},
     "table::word": {"at": "the place of a word"},
     "table::cut": {"start": "a place in the bytes", "len": "a length"},
     "table::field": {"n": "a row of any section", "j": "the place of a word in a row"},

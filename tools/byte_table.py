@@ -1,6 +1,6 @@
-"""The table of 256 entries of crate `text`: for each byte 256 times its class, and its lower-case form.
+"""The table of 256 entries of crate `ascii`: for each byte 256 times its class, and its lower-case form.
 
-That the entries are right is proved (crates/text/proofs/byte_table/whole) and doesn't rest on this script."""
+That the entries are right is proved (crates/ascii/proofs/byte_table/whole) and doesn't rest on this script."""
 
 CLASSES = {
     1: "ABCDEFGHIJKLMNOPQRSTUVWXYZabcdefghijklmnopqrstuvwxyz",
@@ -27,7 +27,7 @@ ENTRIES = [256 * class_of(byte) + lower(byte) for byte in range(256)]
 SOURCE = """// The table of bytes. Written by tools/byte_table.py.
 ghost use mathlib.Core.Path.{_≡_};
 ghost use lib.ListN.{getD};
-ghost use Rattle.text.specs.Bytes.{wholeTable};
+ghost use Rattle.ascii.specs.Bytes.{wholeTable};
 
 // For each byte its class, times 256, and its lower-case form.
 const TABLE: [u16; 256] = [
@@ -52,4 +52,4 @@ pub fn entry_in(table: &[u16; 256], x: u8) -> u16
 
 def files():
     """Each path that this script writes, with what it writes there."""
-    return {"crates/text/src/byte_table.rt": SOURCE % "\n".join(f"    {entry}," for entry in ENTRIES)}
+    return {"crates/ascii/src/byte_table.rt": SOURCE % "\n".join(f"    {entry}," for entry in ENTRIES)}

@@ -7,23 +7,23 @@ through to start. The law of each kind of loop is in crates/laws/proofs/Loops.an
 ROWS = [
     {
         "kind": "any",
-        "crate": "text",
+        "crate": "ascii",
         "function": "has_class",
         "parameters": "s class",
         "slices": ["s"],
         "test": "is_class",
         "definition": "(λ x. eqb (classOf x) class)",
-        "uses": ["lib.Dec.{eqb}", "Rattle.text.specs.Bytes.{classOf}"],
+        "uses": ["lib.Dec.{eqb}", "Rattle.ascii.specs.Bytes.{classOf}"],
     },
     {
         "kind": "all",
-        "crate": "text",
+        "crate": "ascii",
         "function": "all_host_bytes",
         "parameters": "s",
         "slices": ["s"],
         "test": "is_host_byte",
         "definition": "isHostByte",
-        "uses": ["Rattle.text.specs.Bytes.{isHostByte}"],
+        "uses": ["Rattle.ascii.specs.Bytes.{isHostByte}"],
     },
     {
         "kind": "each",
@@ -35,7 +35,7 @@ ROWS = [
         "definition": "(λ x y. eqb (takenByte letters x) (lowerByte y))",
         "uses": [
             "lib.Dec.{eqb}",
-            "Rattle.text.specs.Bytes.{lowerByte}",
+            "Rattle.ascii.specs.Bytes.{lowerByte}",
             "Rattle.text.specs.Texts.{takenByte, taken, lowered}",
             "Rattle.text.proofs.Laws.{taken-each}",
         ],

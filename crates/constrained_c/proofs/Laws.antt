@@ -10,7 +10,7 @@ use Rattle.model.specs.Model.{Bytes, Name, Nc, Cert}
 use Rattle.model.specs.Decode.{generalOf}
 use Rattle.sans.specs.Sans.{isKind}
 use Rattle.sans.specs.declared.Kind.the-variants.{Dns}
-use Rattle.covering.specs.declared.dns.Covering.{Covering}
+use Rattle.covering_dns.specs.declared.Covering.{Covering}
 use Rattle.constraints.specs.Keeps.{checkSubject, checkSanConstraints, checkNameConstraintsHelper, keepsConstraints}
 use Rattle.constrained_c.specs.Rule16.{validIfDns}
 

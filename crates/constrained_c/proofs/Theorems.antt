@@ -12,8 +12,8 @@ use Rattle.patterns.specs.Patterns.{cleanName, permitName, validNameConstraint}
 use Rattle.patterns.proofs.Theorems.{clean-lowered}
 use Rattle.model.specs.Model.{Bytes, GeneralName, dns, directory, ip, other, unsupported, Cert}
 use Rattle.sans.specs.Sans.{dnsAnd}
-use Rattle.covering.specs.Covers.{dnsCovers, overDns}
-use Rattle.covering.specs.declared.dns.Covering.the-variants.{Cleaned}
+use Rattle.covering_dns.specs.Covers.{dnsCovers, overDns}
+use Rattle.covering_dns.specs.declared.Covering.the-variants.{Cleaned}
 use Rattle.constraints.specs.Match.{askedName}
 use Rattle.constraints.specs.Stated.{isGeneralSubtreeOf}
 use Rattle.constraints.proofs.Theorems.{keeps-constraints-means}

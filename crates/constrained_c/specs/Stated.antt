@@ -8,7 +8,7 @@ use lib.ListN.{length}
 use Rattle.patterns.specs.Patterns.{validNameConstraint}
 use Rattle.model.specs.Model.{Bytes, GeneralName, dns, directory, San, Nc, Cert}
 use Rattle.sans.specs.Stated.{nameOf}
-use Rattle.covering.specs.declared.dns.Covering.the-variants.{Cleaned}
+use Rattle.covering_dns.specs.declared.Covering.the-variants.{Cleaned}
 use Rattle.constraints.specs.Stated.{NcMatch, CheckSanConstraints}
 
 -- j passes the constraints c: its subject, unless it is empty, as a directory name, and every name of its SAN. Nobody is exempt, and no common name is asked.

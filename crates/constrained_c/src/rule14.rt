@@ -5,7 +5,7 @@ ghost use Rattle.constrained_c.specs.Rule14.{checkNameConstraints};
 use crate::EXCLUDED;
 use crate::NC;
 use crate::PERMITTED;
-use covering::dns::Covering;
+use covering_dns::Covering;
 use model::chain::CertRow;
 use model::chain::NAMES;
 

@@ -23,9 +23,10 @@ use Rattle.sans.specs.Sans.{kindNo, isKind, directoryAnd, ipAnd, checkSanHasDns
 use Rattle.sans.specs.declared.Kind.{Kind}
 use Rattle.sans.specs.declared.Kind.the-variants.{Dns, Directory, Ip}
 use Rattle.sans.proofs.Theorems.{check-san-has-dns-means, each-common-means}
-use Rattle.covering.specs.Covers.{overDns, overDirectory, overIp}
-use Rattle.covering.specs.declared.dns.Covering.{Covering}
-use Rattle.covering.specs.declared.dns.Covering.the-variants.{Lowered}
+use Rattle.covering.specs.Covers.{overDirectory, overIp}
+use Rattle.covering_dns.specs.Covers.{overDns}
+use Rattle.covering_dns.specs.declared.Covering.{Covering}
+use Rattle.covering_dns.specs.declared.Covering.the-variants.{Lowered}
 use Rattle.constraints.specs.Match.{allowed, checkDnsNameConstraints, checkDirectoryNameConstraints, checkIpAddrNameConstraints, askedName, ncMatch}
 use Rattle.constraints.specs.Keeps.{selfIssued, checkSubject, textPasses, checkSanConstraints, checkCommonNameConstraints, checkNameConstraintsHelper, keepsConstraints}
 use Rattle.constraints.proofs.Laws.{same-passes}

@@ -6,7 +6,7 @@ ghost use Rattle.text.specs.Texts.{lowered};
 ghost use Rattle.model.specs.Decode.{nameIn, generalAt, generalsIn, certAt};
 ghost use Rattle.constraints.specs.Match.{checkDnsNameConstraints, checkDirectoryNameConstraints, checkIpAddrNameConstraints, askedName, ncMatch};
 ghost use Rattle.constraints.specs.Keeps.{checkSubject, checkSanConstraints};
-use covering::dns::Covering;
+use covering_dns::Covering;
 use model::chain::CertRow;
 use model::chain::NAMES;
 use model::chain::NameNo;
@@ -25,11 +25,11 @@ pub fn check_dns_name_constraints(
 ) -> bool
     ensures { λ r. ⌜ r ≡ checkDnsNameConstraints v (generalsIn (now (words .entry)) (now (bytes .entry)) permitted) (generalsIn (now (words .entry)) (now (bytes .entry)) excluded) (now (name .entry)) ⌝ }
 {
-    if covering::dns::any_dns(words, bytes, excluded, v, name) {
+    if covering_dns::any_dns(words, bytes, excluded, v, name) {
         return false;
     }
     if sans::has_kind(words, bytes, permitted, Kind::Dns) {
-        return covering::dns::any_dns(words, bytes, permitted, v, name);
+        return covering_dns::any_dns(words, bytes, permitted, v, name);
     }
     true
 }

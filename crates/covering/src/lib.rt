@@ -1,6 +1,4 @@
-// Whether some constraint of a range covers a name. The name is fetched before, and each constraint is compared with it in place.
-pub mod dns;
-
+// Whether some constraint of a range covers a directory name or an IP address. The name is fetched before, and each constraint is compared with it in place.
 ghost use mathlib.Core.Path.{_≡_};
 ghost use Rattle.laws.specs.Lists.{any};
 ghost use Rattle.model.specs.Decode.{nameIn, generalAt, generalsIn};

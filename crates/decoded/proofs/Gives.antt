@@ -9,7 +9,7 @@ use lib.ListN.{length, getD}
 use borrow.Author.Tests.{ltb-false, leb-false}
 use Rattle.laws.specs.Lists.{any}
 use Rattle.laws.proofs.Tests.{or-left, or-right}
-use Rattle.text.specs.Bytes.{isHigh}
+use Rattle.ascii.specs.Bytes.{isHigh}
 use Rattle.table.specs.Table.{word, countOf, offsetOf, strings, stringOf}
 use Rattle.table.specs.declared.Section.{Section}
 use Rattle.model.specs.Sections.{rdns}

@@ -7,7 +7,7 @@ use mathlib.Core.Option.{none, some}
 use Rattle.laws.specs.Lists.{any, each, eqList}
 use Rattle.laws.proofs.Equal.{equal-list, list-equal}
 use Rattle.laws.proofs.Optional.{if-there-means, there-and-means}
-use Rattle.text.specs.Bytes.{lowerByte}
+use Rattle.ascii.specs.Bytes.{lowerByte}
 use Rattle.text.specs.Texts.{quoted, lowered, startsWith, endsWith}
 use Rattle.patterns.specs.Patterns.{finalDotOff, cleanName, matchName}
 use Rattle.lists.proofs.Theorems.{matched-means}

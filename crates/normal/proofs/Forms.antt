@@ -15,9 +15,9 @@ use Rattle.laws.specs.Lists.{pick, all, each, eqList, least, Least}
 use Rattle.laws.proofs.Tests.{and-left, and-right}
 use Rattle.laws.proofs.Meaning.{least-is}
 use Rattle.laws.proofs.Equal.{equal-list, list-equal}
-use Rattle.text.specs.Bytes.{isSpace, lowerByte, classOf, space}
+use Rattle.ascii.specs.Bytes.{isSpace, lowerByte, classOf, space}
+use Rattle.ascii.proofs.Chars.{lower-space, class-space}
 use Rattle.text.specs.Texts.{Text, lowered}
-use Rattle.text.proofs.Chars.{lower-space, class-space}
 use Rattle.normal.specs.Normal.{dropFront, dropBack, spaceFirst, oneSpace, normalizeString, sameNormal}
 use Rattle.normal.specs.Walk.{form, stepped, noSpaceAt, Advanced}
 

@@ -10,9 +10,9 @@ use borrow.Author.Tests.{not-true}
 use Rattle.laws.specs.Lists.{pick, all, isEmpty}
 use Rattle.laws.proofs.Equal.{equal-list, list-equal}
 use Rattle.laws.proofs.Tests.{and-left, and-right}
-use Rattle.text.specs.Bytes.{isSpace, lowerByte}
+use Rattle.ascii.specs.Bytes.{isSpace, lowerByte}
+use Rattle.ascii.proofs.Chars.{lower-idempotent, lower-space}
 use Rattle.text.specs.Texts.{Text, lowered}
-use Rattle.text.proofs.Chars.{lower-idempotent, lower-space}
 use Rattle.normal.specs.Normal.{dropFront, dropBack, spaceFirst, oneSpace, normalizeString, sameNormal}
 use Rattle.normal.specs.Walk.{form}
 use Rattle.normal.proofs.Forms.{walked}

@@ -2,7 +2,7 @@
 use mathlib.Core.List.{[], _∷_}
 use mathlib.Core.Bool.{Bool, false, _&&_}
 use Rattle.laws.specs.Lists.{all, eqList, pick}
-use Rattle.text.specs.Bytes.{isSpace}
+use Rattle.ascii.specs.Bytes.{isSpace}
 use Rattle.text.specs.Texts.{Text, lowered}
 
 -- the spaces (byte 32) at the front off

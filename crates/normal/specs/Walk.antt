@@ -5,7 +5,7 @@ use mathlib.Core.List.{[], _∷_}
 use mathlib.Core.Bool.{Bool, true, false, not}
 use lib.ListN.{length, drop, getD}
 use Rattle.laws.specs.Lists.{pick}
-use Rattle.text.specs.Bytes.{isSpace, lowerByte}
+use Rattle.ascii.specs.Bytes.{isSpace, lowerByte}
 use Rattle.text.specs.Texts.{Text}
 use Rattle.normal.specs.declared.Step.{Step}
 

@@ -4,7 +4,7 @@ ghost use Prim.Native.Nat.{_≤_};
 ghost use mathlib.Core.Bool.{not};
 ghost use lib.ListN.{length};
 ghost use Rattle.laws.specs.Lists.{least};
-ghost use Rattle.text.specs.Bytes.{isSpace, wholeTable};
+ghost use Rattle.ascii.specs.Bytes.{isSpace, wholeTable};
 ghost use Rattle.normal.specs.Normal.{sameNormal};
 ghost use Rattle.normal.specs.Walk.{noSpaceAt, Advanced};
 
@@ -19,7 +19,7 @@ fn is_no_space(table: &[u16; 256], x: u8) -> bool
     requires { ⌜ now table ≡ wholeTable ⌝ }
     ensures { λ r. ⌜ r ≡ not (isSpace x) ⌝ }
 {
-    text::byte_table::entry_in(table, x) / 256 != text::SPACE as u16
+    ascii::byte_table::entry_in(table, x) / 256 != ascii::SPACE as u16
 }
 
 // The first place from i on that holds no space, or the end.
@@ -49,8 +49,8 @@ fn advance(table: &[u16; 256], s: &[u8], i: usize) -> Step
             at: i,
         };
     }
-    let entry = text::byte_table::entry_in(table, s[i]);
-    if entry / 256 != text::SPACE as u16 {
+    let entry = ascii::byte_table::entry_in(table, s[i]);
+    if entry / 256 != ascii::SPACE as u16 {
         return Step {
             end: false,
             byte: (entry % 256) as u8,
@@ -72,7 +72,7 @@ pub fn same_normal(a: &[u8], b: &[u8]) -> bool
     if text::same(a, b) {
         return true;
     }
-    let table = text::byte_table::whole();
+    let table = ascii::byte_table::whole();
     let mut i = past_spaces(&table, a, 0);
     let mut j = past_spaces(&table, b, 0);
     loop {

@@ -12,10 +12,10 @@ use Rattle.laws.specs.Lists.{any, all, each, eqList, isEmpty, pick}
 use Rattle.laws.proofs.Meaning.{any-agree, any-map}
 use Rattle.laws.proofs.Parts.{rest, empty-length}
 use Rattle.laws.proofs.Tests.{and-left, and-right, pick-true, pick-false}
-use Rattle.text.specs.Bytes.{isDot, isStar, isHostByte, dot, star, classOf, lowerByte}
+use Rattle.ascii.specs.Bytes.{isDot, isStar, isHostByte, dot, star, classOf, lowerByte}
+use Rattle.ascii.proofs.Chars.{class-dot, class-star, lower-dot, lower-star}
 use Rattle.text.specs.Texts.{Text, quoted, lowered, taken, startsWith, endsWith, matchDnsName}
 use Rattle.text.specs.declared.Letters.{Letters}
-use Rattle.text.proofs.Chars.{class-dot, class-star, lower-dot, lower-star}
 use Rattle.text.proofs.Laws.{lowered-length, taken-length, lowered-take, taken-drop, lowered-at, starts-taken, no-dot, last-dot}
 use Rattle.patterns.specs.Patterns.{oneLabel, matchName, finalDotOff, cleanName, Cleaned, permitName, hostText, checkValidPattern, validNameConstraint}
 

@@ -14,7 +14,7 @@ use Rattle.laws.specs.Lists.{any, each, eqList}
 use Rattle.laws.proofs.Equal.{equal-list, list-equal}
 use Rattle.laws.proofs.Meaning.{every-all}
 use Rattle.laws.proofs.Tests.{and-left, and-right, pick-true, pick-false}
-use Rattle.text.specs.Bytes.{isDot, lowerByte}
+use Rattle.ascii.specs.Bytes.{isDot, lowerByte}
 use Rattle.text.specs.Texts.{Text, quoted, lowered, startsWith, endsWith}
 use Rattle.text.proofs.Theorems.{lowered-twice, then-starts, then-ends, ends-then, empty-covers}
 use Rattle.patterns.specs.Patterns.{oneLabel, matchName, finalDotOff, cleanName, permitName, validNameConstraint}

@@ -5,7 +5,7 @@ use mathlib.Core.Bool.{Bool, not, _&&_, _||_}
 use lib.Dec.{ltb}
 use lib.ListN.{length, take, drop}
 use Rattle.laws.specs.Lists.{any, all, eqList, isEmpty, pick}
-use Rattle.text.specs.Bytes.{isDot, isStar, isHostByte}
+use Rattle.ascii.specs.Bytes.{isDot, isStar, isHostByte}
 use Rattle.text.specs.Texts.{Text, quoted, lowered, startsWith, endsWith, covers}
 
 -- one label stands in the name n before the end t: n is longer, ends with t, and has no dot before it

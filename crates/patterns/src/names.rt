@@ -15,7 +15,7 @@ fn one_label(letters: Letters, tail: &[u8], name: &[u8]) -> bool
         return false;
     }
     let at = name.len() - tail.len();
-    !text::has_class(&name[..at], text::DOT)
+    !ascii::has_class(&name[..at], ascii::DOT)
 }
 
 // Whether the pattern, its letters taken as said, matches the lowered name.
@@ -43,7 +43,7 @@ pub fn clean_name(name: &[u8]) -> &[u8]
         return name;
     }
     let last = n - 1;
-    if text::class_of(name[last]) == text::DOT {
+    if ascii::class_of(name[last]) == ascii::DOT {
         return &name[..last];
     }
     name
@@ -62,7 +62,7 @@ fn host_text(s: &[u8]) -> bool
     if s.len() == 0 {
         return false;
     }
-    text::all_host_bytes(s)
+    ascii::all_host_bytes(s)
 }
 
 // Whether a pattern is one that OpenSSL takes.
@@ -74,7 +74,7 @@ pub fn check_valid_pattern(pattern: &[u8]) -> bool
     }
     let tail = &pattern[2..];
     if host_text(tail) {
-        return text::has_class(tail, text::DOT);
+        return ascii::has_class(tail, ascii::DOT);
     }
     false
 }
@@ -88,8 +88,8 @@ pub fn valid_name_constraint(constraint: &[u8]) -> bool
     if n == 0 {
         return false;
     }
-    if text::class_of(name[n - 1]) == text::DOT {
+    if ascii::class_of(name[n - 1]) == ascii::DOT {
         return false;
     }
-    !text::has_class(name, text::STAR)
+    !ascii::has_class(name, ascii::STAR)
 }

@@ -10,7 +10,7 @@ use lib.ListN.{length, take, drop}
 use borrow.Author.Tests.{ltb-false, not-true}
 use Rattle.laws.specs.Lists.{numbers, any, all}
 use Rattle.laws.proofs.Meaning.{all-every}
-use Rattle.text.specs.Bytes.{isHigh}
+use Rattle.ascii.specs.Bytes.{isHigh}
 use Rattle.table.specs.Table.{word, part, countOf, offsetOf, fieldOf, strings, stringOf}
 use Rattle.row_tests.specs.Wrong.{highString, stringOut}
 use Rattle.search.specs.Rows.{rowsOf}

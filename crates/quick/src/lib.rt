@@ -80,7 +80,7 @@ fn is_high(words: &[u64], bytes: &[u8], s: StringNo) -> bool
     let p = (table::offset(words, STRINGS) + STRINGS.size * n) as usize;
     let start = words[p] as usize;
     let end = start + words[p + 1] as usize;
-    text::has_high(&bytes[start..end])
+    ascii::has_high(&bytes[start..end])
 }
 
 // Whether there is such a string, and it has no byte over 127.

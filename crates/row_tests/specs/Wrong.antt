@@ -6,7 +6,7 @@ use mathlib.Core.Bool.{Bool, not, _&&_, _||_}
 use lib.Dec.{eqb, leb, ltb}
 use lib.ListN.{length}
 use Rattle.laws.specs.Lists.{any}
-use Rattle.text.specs.Bytes.{isHigh}
+use Rattle.ascii.specs.Bytes.{isHigh}
 use Rattle.table.specs.Table.{word, countOf, strings, stringOf}
 use Rattle.table.specs.declared.Section.{Section}
 use Rattle.model.specs.Sections.{rdns}

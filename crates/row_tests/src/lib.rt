@@ -83,7 +83,7 @@ fn there(words: &[u64], p: usize) -> bool
 fn high_string(words: &[u64], bytes: &[u8], n: StringNo) -> bool
     ensures { λ r. ⌜ r ≡ highString (now (words .entry)) (now (bytes .entry)) (n .0) ⌝ }
 {
-    text::has_high(table::string(words, bytes, n))
+    ascii::has_high(table::string(words, bytes, n))
 }
 
 // Whether the string with start and length at p and p + 1 ends outside the bytes.

@@ -13,9 +13,9 @@ use Rattle.laws.specs.Lists.{each, eqList}
 use Rattle.laws.proofs.Equal.{each-map, each-length}
 use Rattle.laws.proofs.Parts.{rest, map-drop, map-take}
 use Rattle.laws.proofs.Tests.{eqb-sym}
-use Rattle.text.specs.Bytes.{isDot, dot, lowerByte, classOf}
+use Rattle.ascii.specs.Bytes.{isDot, dot, lowerByte, classOf}
+use Rattle.ascii.proofs.Chars.{class-dot, lower-dot, lower-star}
 use Rattle.text.specs.Texts.{Text, quoted, lowered, takenByte, taken, startsWith, endsWith, covers, matchDnsName}
-use Rattle.text.proofs.Chars.{class-dot, lower-dot, lower-star}
 use Rattle.text.specs.declared.Letters.{Letters}
 use Rattle.text.specs.declared.Letters.the-variants.{AsGiven, Lowered}
 

@@ -1,5 +1,5 @@
 -- What the definitions of texts mean: laws that test them. Assumes nothing.
-use Prim.Native.Nat.{ℕ, _+_, _-_}
+use Prim.Native.Nat.{_+_, _-_}
 use native.Mathlib.Omega.{arith}
 use mathlib.Core.Path.{_≡_, refl, sym, ap, _∙_}
 use mathlib.Core.List.{[], _∷_, _++_, append-nil, append-assoc}
@@ -11,20 +11,12 @@ use borrow.Author.Tests.{le-leb}
 use Rattle.laws.specs.Lists.{eqList}
 use Rattle.laws.proofs.Equal.{equal-list, list-equal}
 use Rattle.laws.proofs.Tests.{and-left, and-right}
-use Rattle.text.specs.Bytes.{isUpper, lowerByte}
+use Rattle.ascii.specs.Bytes.{lowerByte}
+use Rattle.ascii.proofs.Chars.{lower-idempotent}
 use Rattle.text.specs.Texts.{Text, quoted, lowered, taken, startsWith, endsWith, covers, matchDnsName}
 use Rattle.text.specs.declared.Letters.the-variants.{AsGiven}
-use Rattle.text.proofs.Chars.{lower-idempotent}
 
 -- ---- lowering
-pub lower-letter : (x : ℕ) → isUpper x ≡ true → lowerByte x ≡ x + 32
-unfolding lowerByte
-lower-letter x h = rw h refl
-
-pub lower-nothing-else : (x : ℕ) → isUpper x ≡ false → lowerByte x ≡ x
-unfolding lowerByte
-lower-nothing-else x h = rw h refl
-
 pub lowered-twice : (s : Text) → lowered (lowered s) ≡ lowered s
 unfolding lowered
 lowered-twice [] = refl

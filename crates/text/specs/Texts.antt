@@ -7,7 +7,7 @@ use mathlib.Core.Bool.{Bool, _&&_, _||_}
 use lib.Dec.{leb}
 use lib.ListN.{length, take, drop}
 use Rattle.laws.specs.Lists.{eqList, isEmpty}
-use Rattle.text.specs.Bytes.{lowerByte}
+use Rattle.ascii.specs.Bytes.{lowerByte}
 use Rattle.text.specs.declared.Letters.{Letters}
 use Rattle.text.specs.declared.Letters.the-variants.{AsGiven, Lowered}
 

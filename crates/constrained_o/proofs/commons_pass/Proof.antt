@@ -5,7 +5,7 @@ use borrow.Author.Needs.{needs}
 use Rattle.laws.specs.Lists.{rows, all}
 use Rattle.model.specs.Decode.{rdnAt, generalsIn}
 use Rattle.sans.specs.Sans.{ifCommon, eachCommon}
-use Rattle.covering.specs.declared.dns.Covering.the-variants.{Lowered}
+use Rattle.covering_dns.specs.declared.Covering.the-variants.{Lowered}
 use Rattle.constraints.specs.Keeps.{textPasses}
 use Rattle.laws.proofs.Loops.{all-here, all-next, all-none}
 use Rattle.constrained_o.proofs.commons_pass.Statement.{statement}

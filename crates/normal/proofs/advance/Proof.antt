@@ -1,5 +1,5 @@
 use native.Mathlib.Omega.{arith}
-use Rattle.text.proofs.Chars.{entry-class, entry-lower}
+use Rattle.ascii.proofs.Chars.{entry-class, entry-lower}
 use Rattle.normal.proofs.Forms.{step-end, step-byte, step-space, space-is}
 use borrow.Author.Needs.{needs}
 use Rattle.normal.proofs.advance.Statement.{statement}

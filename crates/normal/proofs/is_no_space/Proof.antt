@@ -3,8 +3,8 @@ use native.Mathlib.Omega.{arith}
 use mathlib.Core.Path.{ap, _∙_}
 use mathlib.Core.Bool.{not}
 use lib.Dec.{eqb}
-use Rattle.text.specs.Bytes.{space}
-use Rattle.text.proofs.Chars.{entry-class, class-space}
+use Rattle.ascii.specs.Bytes.{space}
+use Rattle.ascii.proofs.Chars.{entry-class, class-space}
 use borrow.Author.Needs.{needs}
 use Rattle.normal.proofs.is_no_space.Statement.{statement}
 use Rattle.normal.proofs.is_no_space.Tie as tie

@@ -1,6 +1,6 @@
 use mathlib.Core.Path.{ap, _∙_}
 use Rattle.laws.specs.Lists.{any}
-use Rattle.text.specs.Bytes.{isHigh}
+use Rattle.ascii.specs.Bytes.{isHigh}
 use Rattle.row_tests.specs.Wrong.{highString}
 use borrow.Author.Needs.{needs}
 use Rattle.row_tests.proofs.high_string.Statement.{statement}

@@ -2,7 +2,7 @@ use mathlib.Core.Path.{sym, ap, ap₂}
 use lib.Dec.{eqb}
 use borrow.Author.Needs.{needs}
 use borrow.Author.Tests.{eq-eqb}
-use Rattle.text.specs.Bytes.{lowerByte}
+use Rattle.ascii.specs.Bytes.{lowerByte}
 use Rattle.text.proofs.lowered_equal.Statement.{statement}
 use Rattle.text.proofs.lowered_equal.Tie as tie
 

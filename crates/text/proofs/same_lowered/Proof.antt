@@ -5,7 +5,7 @@ use native.Mathlib.Omega.{arith}
 use borrow.Author.Needs.{needs}
 use lib.ListN.{length}
 use lib.Dec.{eqb}
-use Rattle.text.specs.Bytes.{lowerByte}
+use Rattle.ascii.specs.Bytes.{lowerByte}
 use Rattle.text.specs.Texts.{takenByte, taken, lowered}
 use Rattle.text.proofs.Laws.{taken-each}
 use Rattle.laws.specs.Lists.{rows, each, eqList}
