@@ -5,20 +5,14 @@ ghost use Rattle.table.specs.Table.{stringOf};
 ghost use Rattle.model.specs.Decode.{akiAt, certAt};
 ghost use Rattle.auth_key_id.specs.AuthKeyId.{keyIdIs, sameKeyId, sameSerial, checkAuthKeyId};
 use certs::cert_word;
+use certs::row::AKI;
+use certs::row::AKI_KEY_ID;
+use certs::row::AKI_SERIAL;
+use certs::row::SERIAL;
+use certs::row::SKI;
+use certs::row::SKI_KEY_ID;
 use model::chain::CertRow;
 use table::StringNo;
-
-const SERIAL: u64 = 2;
-
-const AKI: u64 = 15;
-
-const AKI_KEY_ID: u64 = 16;
-
-const AKI_SERIAL: u64 = 18;
-
-const SKI: u64 = 19;
-
-const SKI_KEY_ID: u64 = 20;
 
 // Whether two strings of a bundle are equal.
 fn same_strings(words: &[u64], bytes: &[u8], a: StringNo, b: StringNo) -> bool

@@ -1,4 +1,6 @@
 // The words of a certificate, a row of C. Each reader asks nothing of the bundle.
+pub mod row;
+
 ghost use mathlib.Core.Path.{_≡_};
 ghost use Rattle.model.specs.Decode.{certWord, certRange, signedOf};
 use model::chain::CERTS;

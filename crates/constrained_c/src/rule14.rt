@@ -2,9 +2,9 @@
 ghost use mathlib.Core.Path.{_≡_};
 ghost use Rattle.model.specs.Decode.{certAt};
 ghost use Rattle.constrained_c.specs.Rule14.{checkNameConstraints};
-use crate::EXCLUDED;
-use crate::NC;
-use crate::PERMITTED;
+use certs::row::EXCLUDED;
+use certs::row::NC;
+use certs::row::PERMITTED;
 use covering_dns::Covering;
 use model::chain::CertRow;
 use model::chain::NAMES;

@@ -8,6 +8,11 @@ ghost use Rattle.sans.specs.Sans.{checkSanHasDns, ifCommon, eachCommon};
 ghost use Rattle.covering_dns.specs.declared.Covering.the-variants.{Lowered};
 ghost use Rattle.constraints.specs.Keeps.{selfIssued, textPasses, checkCommonNameConstraints, checkNameConstraintsHelper};
 ghost use Rattle.constrained_o.specs.Rule14.{checkNameConstraints};
+use certs::row::EXCLUDED;
+use certs::row::ISSUER;
+use certs::row::NC;
+use certs::row::PERMITTED;
+use certs::row::SUBJECT;
 use covering_dns::Covering;
 use model::chain::AttributeNo;
 use model::chain::CertRow;
@@ -21,8 +26,8 @@ use table::Range;
 fn self_issued(words: &[u64], bytes: &[u8], c: CertRow) -> bool
     ensures { λ r. ⌜ r ≡ selfIssued (certAt (now (words .entry)) (now (bytes .entry)) (c .0)) ⌝ }
 {
-    let subject = certs::cert_range(words, c, 9, RDNS);
-    let issuer = certs::cert_range(words, c, 7, RDNS);
+    let subject = certs::cert_range(words, c, SUBJECT, RDNS);
+    let issuer = certs::cert_range(words, c, ISSUER, RDNS);
     names::same_dn(words, bytes, Values::Normalised, subject, issuer)
 }
 
@@ -102,7 +107,7 @@ fn check_common_name_constraints(
         bytes,
         permitted,
         excluded,
-        certs::cert_range(words, c, 9, RDNS),
+        certs::cert_range(words, c, SUBJECT, RDNS),
     )
 }
 
@@ -163,7 +168,7 @@ pub fn check_name_constraints(
 ) -> bool
     ensures { λ r. ⌜ r ≡ checkNameConstraints leaf (certAt (now (words .entry)) (now (bytes .entry)) (i .0)) (certAt (now (words .entry)) (now (bytes .entry)) (j .0)) ⌝ }
 {
-    if certs::cert_word(words, i, 33) == 0 {
+    if certs::cert_word(words, i, NC) == 0 {
         return true;
     }
     if self_issued(words, bytes, j) {
@@ -172,8 +177,8 @@ pub fn check_name_constraints(
     check_name_constraints_helper(
         words,
         bytes,
-        certs::cert_range(words, i, 34, NAMES),
-        certs::cert_range(words, i, 36, NAMES),
+        certs::cert_range(words, i, PERMITTED, NAMES),
+        certs::cert_range(words, i, EXCLUDED, NAMES),
         j,
         leaf,
     )

@@ -6,6 +6,9 @@ ghost use Rattle.text.specs.Texts.{lowered};
 ghost use Rattle.model.specs.Decode.{nameIn, generalAt, generalsIn, certAt};
 ghost use Rattle.constraints.specs.Match.{checkDnsNameConstraints, checkDirectoryNameConstraints, checkIpAddrNameConstraints, askedName, ncMatch};
 ghost use Rattle.constraints.specs.Keeps.{checkSubject, checkSanConstraints};
+use certs::row::SAN;
+use certs::row::SAN_NAMES;
+use certs::row::SUBJECT;
 use covering_dns::Covering;
 use model::chain::CertRow;
 use model::chain::NAMES;
@@ -143,7 +146,7 @@ pub fn check_san_constraints(
 ) -> bool
     ensures { λ r. ⌜ r ≡ ifThere (checkSanConstraints v (generalsIn (now (words .entry)) (now (bytes .entry)) permitted) (generalsIn (now (words .entry)) (now (bytes .entry)) excluded)) ((certAt (now (words .entry)) (now (bytes .entry)) (c .0)) .san) ⌝ }
 {
-    if certs::cert_word(words, c, 30) == 0 {
+    if certs::cert_word(words, c, SAN) == 0 {
         return true;
     }
     names_pass(
@@ -152,7 +155,7 @@ pub fn check_san_constraints(
         permitted,
         excluded,
         v,
-        certs::cert_range(words, c, 31, NAMES),
+        certs::cert_range(words, c, SAN_NAMES, NAMES),
     )
 }
 
@@ -187,6 +190,6 @@ pub fn check_subject(
         bytes,
         permitted,
         excluded,
-        certs::cert_range(words, c, 9, RDNS),
+        certs::cert_range(words, c, SUBJECT, RDNS),
     )
 }

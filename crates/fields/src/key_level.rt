@@ -3,11 +3,9 @@ ghost use mathlib.Core.Path.{_≡_};
 ghost use Rattle.model.specs.Decode.{certAt};
 ghost use Rattle.fields.specs.KeyLevel.{checkCertKeyLevel};
 use certs::cert_word;
+use certs::row::KEY;
+use certs::row::RSA_BITS;
 use model::chain::CertRow;
-
-const KEY: u64 = 11;
-
-const RSA_BITS: u64 = 12;
 
 // The two kinds of key that are asked something.
 const RSA: u64 = 0;

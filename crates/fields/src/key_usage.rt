@@ -3,11 +3,9 @@ ghost use mathlib.Core.Path.{_≡_};
 ghost use Rattle.model.specs.Decode.{certAt};
 ghost use Rattle.fields.specs.KeyUsage.{keyUsageNonEmpty};
 use certs::cert_word;
+use certs::row::KU;
+use certs::row::KU_BITS;
 use model::chain::CertRow;
-
-const KU: u64 = 28;
-
-const KU_BITS: u64 = 29;
 
 // Two to the number of bits that a KU has.
 const ALL_BITS: u64 = 512;

@@ -3,12 +3,10 @@ ghost use mathlib.Core.Path.{_≡_};
 ghost use Rattle.model.specs.Decode.{certAt};
 ghost use Rattle.fields.specs.Signatures.{outerInnerSigMatch};
 use certs::cert_word;
+use certs::row::INNER;
+use certs::row::OUTER;
 use model::chain::CertRow;
 use table::StringNo;
-
-const OUTER: u64 = 3;
-
-const INNER: u64 = 4;
 
 // Whether the signature bytes inside a certificate are those outside.
 pub fn outer_inner_sig_match(words: &[u64], bytes: &[u8], c: CertRow) -> bool

@@ -3,14 +3,10 @@ ghost use mathlib.Core.Path.{_≡_};
 ghost use Rattle.model.specs.Decode.{certAt, taskOf};
 ghost use Rattle.fields.specs.Validity.{checkCertTime};
 use certs::cert_word;
+use certs::row::NOT_AFTER;
+use certs::row::NOT_BEFORE;
 use model::chain::CertRow;
-
-// The word of the header that holds the time, and the words of a certificate that hold its two dates.
-const NOW: usize = 15;
-
-const NOT_BEFORE: u64 = 5;
-
-const NOT_AFTER: u64 = 6;
+use model::chain::NOW;
 
 // Whether a certificate is in date.
 pub fn check_cert_time(words: &[u64], bytes: &[u8], c: CertRow) -> bool

@@ -7,8 +7,12 @@ ghost use Rattle.model.specs.Decode.{attributeAt, rdnAt, nameIn, generalAt, gen
 ghost use Rattle.names.specs.Names.{rdnIn};
 ghost use Rattle.sans.specs.Sans.{dnsAnd, commonAnd, someCommon};
 ghost use Rattle.hosts.specs.Hostname.{namesHost, checkHostname, hostNamed};
+use certs::row::SAN;
+use certs::row::SAN_NAMES;
+use certs::row::SUBJECT;
 use model::chain::AttributeNo;
 use model::chain::CertRow;
+use model::chain::HOST;
 use model::chain::NAMES;
 use model::chain::NameNo;
 use model::chain::RDNS;
@@ -17,9 +21,6 @@ use sans::Kind;
 use table::Range;
 use table::StringNo;
 use text::Letters;
-
-// The word of the header that says whether there is a host, and which.
-const HOST: usize = 13;
 
 fn names_host(host: &[u8], name: &[u8]) -> bool
     ensures { λ r. ⌜ r ≡ namesHost (now (host .entry)) (now (name .entry)) ⌝ }
@@ -58,10 +59,15 @@ fn any_dns_names(words: &[u64], bytes: &[u8], r: Range, host: &[u8]) -> bool
 fn san_names(words: &[u64], bytes: &[u8], c: CertRow, host: &[u8]) -> bool
     ensures { λ r. ⌜ r ≡ thereAnd (λ (s : San). any (dnsAnd (namesHost (now (host .entry)))) (s .names)) ((certAt (now (words .entry)) (now (bytes .entry)) (c .0)) .san) ⌝ }
 {
-    if certs::cert_word(words, c, 30) == 0 {
+    if certs::cert_word(words, c, SAN) == 0 {
         return false;
     }
-    any_dns_names(words, bytes, certs::cert_range(words, c, 31, NAMES), host)
+    any_dns_names(
+        words,
+        bytes,
+        certs::cert_range(words, c, SAN_NAMES, NAMES),
+        host,
+    )
 }
 
 // Whether an attribute is a common name that names the host.
@@ -112,7 +118,12 @@ fn any_rdn_names(words: &[u64], bytes: &[u8], r: Range, host: &[u8]) -> bool
 fn subject_names(words: &[u64], bytes: &[u8], c: CertRow, host: &[u8]) -> bool
     ensures { λ r. ⌜ r ≡ someCommon (namesHost (now (host .entry))) ((certAt (now (words .entry)) (now (bytes .entry)) (c .0)) .subject) ⌝ }
 {
-    any_rdn_names(words, bytes, certs::cert_range(words, c, 9, RDNS), host)
+    any_rdn_names(
+        words,
+        bytes,
+        certs::cert_range(words, c, SUBJECT, RDNS),
+        host,
+    )
 }
 
 // Whether a certificate is one for the host.

@@ -7,21 +7,16 @@ ghost use Rattle.model.specs.Model.{San};
 ghost use Rattle.model.specs.Decode.{generalAt, generalsIn, sanAt, certAt, taskOf, listsOf};
 ghost use Rattle.sans.specs.Sans.{dnsAnd};
 ghost use Rattle.hosts_c.specs.SanHost.{hasPublicSuffix, namesClean, matchSan, hostNamed};
+use certs::row::SAN;
+use certs::row::SAN_NAMES;
 use model::chain::CertRow;
+use model::chain::HOST;
 use model::chain::NAMES;
 use model::chain::NameNo;
 use sans::Kind;
 use table::Range;
 use table::StringNo;
 use text::Letters;
-
-// The word of the header that says whether there is a host, and which.
-const HOST: usize = 13;
-
-// The words of a certificate that say whether it has a SAN, and which names.
-const SAN: u64 = 30;
-
-const SAN_NAMES: u32 = 31;
 
 // Whether a DNS name, once cleaned, matches the lowered host, or where only an exact one will do equals it.
 fn names_clean(exact: bool, host: &[u8], name: &[u8]) -> bool

@@ -5,13 +5,11 @@ ghost use Rattle.names.specs.Names.{sameDn};
 ghost use Rattle.names.specs.declared.Values.the-variants.{Normalised};
 ghost use Rattle.issuing.specs.Issuing.{likelyIssued};
 use certs::cert_range;
+use certs::row::ISSUER;
+use certs::row::SUBJECT;
 use model::chain::CertRow;
 use model::chain::RDNS;
 use names::Values;
-
-const ISSUER: u32 = 7;
-
-const SUBJECT: u32 = 9;
 
 // Whether the issuer that the subject names is the issuer's own subject.
 fn same_names(words: &[u64], bytes: &[u8], issuer: CertRow, subject: CertRow) -> bool

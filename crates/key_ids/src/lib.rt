@@ -3,35 +3,20 @@ ghost use mathlib.Core.Path.{_≡_};
 ghost use Rattle.model.specs.Decode.{certAt};
 ghost use Rattle.key_ids.specs.KeyIds.{idsNotCritical, hasKeyIds, hasNoParts, checkAuthSubjectKeyId};
 use certs::cert_word;
+use certs::row::AIA;
+use certs::row::AKI;
+use certs::row::AKI_KEY_ID;
+use certs::row::ANY_EXTENSIONS;
+use certs::row::BC;
+use certs::row::CRITICAL;
+use certs::row::EKU;
+use certs::row::KU;
+use certs::row::NC;
+use certs::row::POLICIES;
+use certs::row::SAN;
+use certs::row::SKI;
+use certs::row::VERSION;
 use model::chain::CertRow;
-
-// The words of a certificate that the rule reads.
-const VERSION: u64 = 1;
-
-const AKI: u64 = 15;
-
-const AKI_KEY_ID: u64 = 16;
-
-const SKI: u64 = 19;
-
-const EKU: u64 = 21;
-
-const BC: u64 = 24;
-
-const KU: u64 = 28;
-
-const SAN: u64 = 30;
-
-const NC: u64 = 33;
-
-const POLICIES: u64 = 38;
-
-const AIA: u64 = 39;
-
-const ANY_EXTENSIONS: u64 = 40;
-
-// The mark of a critical part.
-const CRITICAL: u64 = 3;
 
 fn ids_not_critical(words: &[u64], bytes: &[u8], c: CertRow) -> bool
     ensures { λ r. ⌜ r ≡ idsNotCritical (certAt (now (words .entry)) (now (bytes .entry)) (c .0)) ⌝ }

@@ -1,4 +1,4 @@
-// The chain bundle: its sections, and the numbers of their rows.
+// The chain bundle: words of its header, its sections, and the numbers of their rows.
 ghost use mathlib.Core.Path.{_≡_};
 ghost use Rattle.model.specs.Decode.{rowsIn};
 use table::CertPos;
@@ -17,6 +17,12 @@ pub const CERTS: Section = Section {
     count: 11,
     size: 41,
 };
+
+// The word of the header that says whether there is a host, and which.
+pub const HOST: usize = 13;
+
+// The word of the header that holds the time.
+pub const NOW: usize = 15;
 
 pub struct AttributeNo(pub u64);
 

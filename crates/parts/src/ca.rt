@@ -2,13 +2,12 @@
 ghost use mathlib.Core.Path.{_≡_};
 ghost use Rattle.model.specs.Decode.{certAt};
 ghost use Rattle.parts.specs.Ca.{checkCa};
-use crate::BC;
-use crate::KU;
-use crate::KU_BITS;
 use certs::cert_word;
+use certs::row::BC;
+use certs::row::CA;
+use certs::row::KU;
+use certs::row::KU_BITS;
 use model::chain::CertRow;
-
-const CA: u64 = 25;
 
 // What this bit adds to the word.
 const KEY_CERT_SIGN: u64 = 32;

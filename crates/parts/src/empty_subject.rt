@@ -2,14 +2,13 @@
 ghost use mathlib.Core.Path.{_≡_};
 ghost use Rattle.model.specs.Decode.{certAt};
 ghost use Rattle.parts.specs.EmptySubject.{emptySubjectImpliesCriticalSan};
-use crate::CRITICAL;
-use crate::SAN;
 use certs::cert_range;
 use certs::cert_word;
+use certs::row::CRITICAL;
+use certs::row::SAN;
+use certs::row::SUBJECT;
 use model::chain::CertRow;
 use model::chain::RDNS;
-
-const SUBJECT: u32 = 9;
 
 // Whether a certificate has a subject, or else a critical SAN.
 pub fn empty_subject_implies_critical_san(words: &[u64], bytes: &[u8], c: CertRow) -> bool

@@ -2,14 +2,12 @@
 ghost use mathlib.Core.Path.{_≡_};
 ghost use Rattle.model.specs.Decode.{certAt};
 ghost use Rattle.parts.specs.PathLength.{longEnough, pathLengthHolds};
-use crate::BC;
 use certs::cert_word;
+use certs::row::BC;
+use certs::row::HAS_LENGTH;
+use certs::row::LENGTH;
 use model::chain::CertRow;
 use table::CertPos;
-
-const HAS_LENGTH: u64 = 26;
-
-const LENGTH: u64 = 27;
 
 // Whether a path length is enough at a position. It is never cast: it may lie below zero.
 fn long_enough(i: CertPos, length: i64) -> bool

@@ -2,13 +2,12 @@
 ghost use mathlib.Core.Path.{_≡_};
 ghost use Rattle.model.specs.Decode.{certAt};
 ghost use Rattle.parts.specs.SanNames.{checkSan};
-use crate::SAN;
 use certs::cert_range;
 use certs::cert_word;
+use certs::row::SAN;
+use certs::row::SAN_NAMES;
 use model::chain::CertRow;
 use model::chain::NAMES;
-
-const SAN_NAMES: u32 = 31;
 
 // Whether a SAN that is there has a name.
 pub fn check_san(words: &[u64], bytes: &[u8], c: CertRow) -> bool

@@ -6,20 +6,16 @@ ghost use Rattle.model.specs.Decode.{certAt, usageOf, usageAt};
 ghost use Rattle.purpose.specs.Purpose.{serves, extendedKeyUsageValid, keyUsageServes, checkPurpose};
 use certs::cert_range;
 use certs::cert_word;
+use certs::row::EKU;
+use certs::row::EKU_USAGES;
+use certs::row::KU;
+use certs::row::KU_BITS;
 use model::chain::CertRow;
 use model::chain::USAGES;
 use model::chain::UsageNo;
 use table::Range;
 
-// The words of a certificate that the rule reads.
-const EKU: u64 = 21;
-
-const EKU_USAGES: u32 = 22;
-
-const KU: u64 = 28;
-
-const KU_BITS: u64 = 29;
-
+// The usages by their numbers.
 const SERVER_AUTH: u64 = 0;
 
 const ANY_USAGE: u64 = 6;

@@ -4,11 +4,9 @@ ghost use Rattle.model.specs.Decode.{certAt, listsOf};
 ghost use Rattle.roots.specs.Duration.{isKnownRoot, leafDurationValid, durationHolds};
 use calendar::Calendar;
 use certs::cert_word;
+use certs::row::NOT_AFTER;
+use certs::row::NOT_BEFORE;
 use model::chain::CertRow;
-
-const NOT_BEFORE: u64 = 5;
-
-const NOT_AFTER: u64 = 6;
 
 // Whether the fingerprint of the root is in known_roots.
 fn is_known_root(words: &[u64], bytes: &[u8], pwords: &[u64], pbytes: &[u8], root: CertRow) -> bool

@@ -4,11 +4,9 @@ ghost use Rattle.text.specs.Texts.{lowered};
 ghost use Rattle.model.specs.Decode.{certAt, taskOf, listAt, listsOf};
 ghost use Rattle.roots.specs.Fingerprints.{notInCrl, servesDomains, servesHost, validRootFingerprint};
 use model::chain::CertRow;
+use model::chain::HOST;
 use model::policy::ListNo;
 use table::StringNo;
-
-// The word of the header that says whether there is a host, and which.
-const HOST: usize = 13;
 
 // Whether the policy does not revoke a certificate.
 pub fn not_in_crl(words: &[u64], bytes: &[u8], pwords: &[u64], pbytes: &[u8], c: CertRow) -> bool

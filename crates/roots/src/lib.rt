@@ -5,10 +5,9 @@ pub mod symantec;
 
 ghost use mathlib.Core.Path.{_≡_};
 ghost use Rattle.model.specs.Decode.{certAt};
+use certs::row::FINGERPRINT;
 use model::chain::CertRow;
 use table::StringNo;
-
-const FINGERPRINT: u64 = 0;
 
 // The fingerprint of a certificate, as a part of the bytes.
 fn fingerprint<'a>(words: &[u64], bytes: &'a [u8], c: CertRow) -> &'a [u8]

@@ -6,6 +6,7 @@ ghost use Rattle.model.specs.Decode.{taskOf, certAt, chainOf, listsOf};
 ghost use Rattle.faults.specs.Report.{certificate};
 ghost use Rattle.fields.specs.KeyLevel.{checkCertKeyLevel};
 ghost use Rattle.rules.specs.Rules.{leastBits, dsaAllowed, purposeHolds, constraintsHold, hostHolds, holdsAt, holdsBetween, isRoot, brokenAt, brokenBetween, asksNothing, brokenIn};
+use certs::row::NC;
 use faults::Spot;
 use model::chain::CERTS;
 use model::chain::CertRow;
@@ -18,10 +19,8 @@ use table::RuleNo;
 // The rule that is asked of the whole chain.
 const SYMANTEC: u32 = 20;
 
-// The rule of name constraints, and the word of a certificate that says whether it has some.
+// The rule of name constraints.
 const CONSTRAINTS: u32 = 14;
-
-const NC: u64 = 33;
 
 // The least bits of an RSA key.
 const LEAST_BITS: u64 = 1024;

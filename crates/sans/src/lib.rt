@@ -3,6 +3,8 @@ ghost use mathlib.Core.Path.{_≡_};
 ghost use Rattle.laws.specs.Lists.{any};
 ghost use Rattle.model.specs.Decode.{attributeAt, generalAt, generalsIn, certAt};
 ghost use Rattle.sans.specs.Sans.{numberOf, isKind, checkSanHasDns, isCommon};
+use certs::row::SAN;
+use certs::row::SAN_NAMES;
 use model::chain::AttributeNo;
 use model::chain::CertRow;
 use model::chain::NAMES;
@@ -47,13 +49,13 @@ pub fn has_kind(words: &[u64], bytes: &[u8], r: Range, k: Kind) -> bool
 pub fn check_san_has_dns(words: &[u64], bytes: &[u8], c: CertRow) -> bool
     ensures { λ t. ⌜ t ≡ checkSanHasDns (certAt (now (words .entry)) (now (bytes .entry)) (c .0)) ⌝ }
 {
-    if certs::cert_word(words, c, 30) == 0 {
+    if certs::cert_word(words, c, SAN) == 0 {
         return false;
     }
     has_kind(
         words,
         bytes,
-        certs::cert_range(words, c, 31, NAMES),
+        certs::cert_range(words, c, SAN_NAMES, NAMES),
         Kind::Dns,
     )
 }
