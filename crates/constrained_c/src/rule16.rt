@@ -17,7 +17,7 @@ fn valid_if_dns(words: &[u64], bytes: &[u8], n: NameNo) -> bool
     ensures { λ r. ⌜ r ≡ validIfDns (generalAt (now (words .entry)) (now (bytes .entry)) (n .0)) ⌝ }
 {
     if sans::is_kind(words, bytes, n, Kind::Dns) {
-        return patterns::names::valid_name_constraint(rows::name_text(words, bytes, n));
+        return patterns::names::valid_name_constraint(general_names::name_text(words, bytes, n));
     }
     true
 }

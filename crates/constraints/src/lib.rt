@@ -96,17 +96,17 @@ fn nc_match(
 ) -> bool
     ensures { λ r. ⌜ r ≡ ncMatch v (generalsIn (now (words .entry)) (now (bytes .entry)) permitted) (generalsIn (now (words .entry)) (now (bytes .entry)) excluded) (generalAt (now (words .entry)) (now (bytes .entry)) (n .0)) ⌝ }
 {
-    let k = rows::kind(words, n);
+    let k = general_names::kind(words, n);
     if k == 0 {
-        let name = asked_name(v, rows::name_text(words, bytes, n));
+        let name = asked_name(v, general_names::name_text(words, bytes, n));
         return check_dns_name_constraints(words, bytes, permitted, excluded, v, name);
     }
     if k == 1 {
-        let name = rows::name_range(words, n);
+        let name = general_names::name_range(words, n);
         return check_directory_name_constraints(words, bytes, permitted, excluded, name);
     }
     if k == 2 {
-        let address = rows::name_text(words, bytes, n);
+        let address = general_names::name_text(words, bytes, n);
         return check_ip_addr_name_constraints(words, bytes, permitted, excluded, address);
     }
     k != 3

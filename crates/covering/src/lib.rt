@@ -16,7 +16,7 @@ fn directory_over(words: &[u64], bytes: &[u8], n: NameNo, name: Range) -> bool
             words,
             bytes,
             Values::Normalised,
-            rows::name_range(words, n),
+            general_names::name_range(words, n),
             name,
         );
     }
@@ -42,7 +42,10 @@ fn ip_over(words: &[u64], bytes: &[u8], n: NameNo, address: &[u8]) -> bool
     ensures { λ r. ⌜ r ≡ overIp (now (address .entry)) (generalAt (now (words .entry)) (now (bytes .entry)) (n .0)) ⌝ }
 {
     if sans::is_kind(words, bytes, n, Kind::Ip) {
-        return patterns::address::ip_addr_in_range(rows::name_text(words, bytes, n), address);
+        return patterns::address::ip_addr_in_range(
+            general_names::name_text(words, bytes, n),
+            address,
+        );
     }
     false
 }

@@ -100,7 +100,7 @@ fn covers(words: &[u64], bytes: &[u8], n: NameNo, v: Covering, name: &[u8]) -> b
     ensures { λ r. ⌜ r ≡ overDns v (now (name .entry)) (generalAt (now (words .entry)) (now (bytes .entry)) (n .0)) ⌝ }
 {
     if sans::is_kind(words, bytes, n, Kind::Dns) {
-        return dns_covers(v, rows::name_text(words, bytes, n), name);
+        return dns_covers(v, general_names::name_text(words, bytes, n), name);
     }
     false
 }

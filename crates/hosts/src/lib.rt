@@ -36,7 +36,7 @@ fn dns_names(words: &[u64], bytes: &[u8], n: NameNo, host: &[u8]) -> bool
     ensures { λ r. ⌜ r ≡ dnsAnd (namesHost (now (host .entry))) (generalAt (now (words .entry)) (now (bytes .entry)) (n .0)) ⌝ }
 {
     if sans::is_kind(words, bytes, n, Kind::Dns) {
-        return names_host(host, rows::name_text(words, bytes, n));
+        return names_host(host, general_names::name_text(words, bytes, n));
     }
     false
 }

@@ -34,7 +34,7 @@ fn dns_names(words: &[u64], bytes: &[u8], n: NameNo, exact: bool, host: &[u8]) -
     ensures { λ r. ⌜ r ≡ dnsAnd (namesClean exact (lowered (now (host .entry)))) (generalAt (now (words .entry)) (now (bytes .entry)) (n .0)) ⌝ }
 {
     if sans::is_kind(words, bytes, n, Kind::Dns) {
-        return names_clean(exact, host, rows::name_text(words, bytes, n));
+        return names_clean(exact, host, general_names::name_text(words, bytes, n));
     }
     false
 }

@@ -1,10 +1,8 @@
-// The rows of A, R, G and U of a chain bundle, field by field. Each reader asks nothing of the bundle.
+// The rows of A, R and U of a chain bundle, field by field. Each reader asks nothing of the bundle.
 ghost use mathlib.Core.Path.{_≡_};
-ghost use Rattle.model.specs.Decode.{oidAt, valueAt, rdnRange, kindAt, nameText, nameRange, usageWord};
+ghost use Rattle.model.specs.Decode.{oidAt, valueAt, rdnRange, usageWord};
 use model::chain::ATTRIBUTES;
 use model::chain::AttributeNo;
-use model::chain::NAMES;
-use model::chain::NameNo;
 use model::chain::RDNS;
 use model::chain::RdnNo;
 use model::chain::USAGES;
@@ -41,31 +39,6 @@ pub fn rdn(words: &[u64], n: RdnNo) -> Range
         ATTRIBUTES,
         table::field(words, RDNS, n.0, 0),
         table::field(words, RDNS, n.0, 1),
-    )
-}
-
-pub fn kind(words: &[u64], n: NameNo) -> u64
-    ensures { λ r. ⌜ r ≡ kindAt (now (words .entry)) (n .0) ⌝ }
-{
-    table::field(words, NAMES, n.0, 0)
-}
-
-// A name's x as a string.
-pub fn name_text<'a>(words: &[u64], bytes: &'a [u8], n: NameNo) -> &'a [u8]
-    ensures { λ r. ⌜ now r ≡ nameText (now (words .entry)) (now (bytes .entry)) (n .0) ⌝ }
-{
-    table::string(words, bytes, StringNo(table::field(words, NAMES, n.0, 1)))
-}
-
-// A name's x and y as a range of RDNs.
-pub fn name_range(words: &[u64], n: NameNo) -> Range
-    ensures { λ r. ⌜ r ≡ nameRange (now (words .entry)) (n .0) ⌝ }
-{
-    model::chain::rows_in(
-        words,
-        RDNS,
-        table::field(words, NAMES, n.0, 1),
-        table::field(words, NAMES, n.0, 2),
     )
 }
 

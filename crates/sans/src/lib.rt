@@ -35,7 +35,7 @@ fn number(k: Kind) -> u64
 pub fn is_kind(words: &[u64], bytes: &[u8], n: NameNo, k: Kind) -> bool
     ensures { λ r. ⌜ r ≡ isKind k (generalAt (now (words .entry)) (now (bytes .entry)) (n .0)) ⌝ }
 {
-    rows::kind(words, n) == number(k)
+    general_names::kind(words, n) == number(k)
 }
 
 // Whether some name of a range is of a kind. The rows are read through a view.

@@ -1,7 +1,7 @@
 use Rattle.model.specs.Decode.{kindAt}
 use borrow.Author.Needs.{needs}
-use Rattle.rows.proofs.kind.Statement.{statement}
-use Rattle.rows.proofs.kind.Tie as tie
+use Rattle.general_names.proofs.kind.Statement.{statement}
+use Rattle.general_names.proofs.kind.Tie as tie
 
 field-requires : tie.Need-field-requires
 field-requires c κs = search needs
