@@ -40,7 +40,7 @@ def main():
     with tempfile.TemporaryDirectory() as folder:
         copy = pathlib.Path(folder)
         shutil.copy(ROOT / "crates.txt", copy)
-        for name in ("crates", "target"):
+        for name in ("crates", "target/rlib", "target/stamp"):
             shutil.copytree(ROOT / name, copy / name, ignore=shutil.ignore_patterns("must-fail"))
         wrong = [(edit, why) for edit in edits if (why := refusal(edit, copy))]
     for edit, why in wrong:
