@@ -60,13 +60,17 @@ WRITERS = {
     },
 }
 
+# Where a loop has nothing to do: the function that tells, the law that nothing is owed then, and how it is told.
+EACH_EARLY = ("any-breaks", "each-unbroken _ _ _ _ _", "(c .before .any-breaks .ensures) (c .if1 .taken)", [])
+ROW_EARLY = ("asks-nothing", "row-unasked _ _ _ _ _ _", "(sym (c .before .asks-nothing .ensures) ∙ c .if1 .taken)", ["sym", "_∙_"])
+
 # What a turn calls and writes (T stands for the test, P for the places, k for the turn), the loop's variable and its bound, what the function takes
-# besides what is lent, the locals that it makes first, what has to be seen through at the end, and the law by which a loop that starts at a parameter counts. skips: a turn that wrote nothing is not joined.
+# besides what is lent, the locals that it makes first, what has to be seen through at the end, and the law by which a loop that starts at a parameter counts. skips: a turn that wrote nothing is not joined. early: what is asked before the loop.
 LOOPS = {
-    "write_each": {"call": "write_one", "turn": "asked T (rule .0) (certificate (i₀ + k))", "var": "i", "bound": "to", "takes": "rule to", "law": "each-turn"},
+    "write_each": {"call": "write_one", "turn": "asked T (rule .0) (certificate (i₀ + k))", "var": "i", "bound": "to", "takes": "rule to", "law": "each-turn", "early": EACH_EARLY},
     "write_neighbours": {"call": "write_one", "turn": "asked T (rule .0) (pair k (k + 1))", "var": "i", "bound": "to", "takes": "rule to", "next": True},
-    "write_row": {"call": "write_one", "turn": "asked T (rule .0) (pair (i .0) k)", "var": "j", "bound": "to", "takes": "rule i", "locals": "to", "opens": "row"},
-    "write_pairs": {"call": "write_row_asked", "turn": "row T (rule .0) (i₀ + k) (i₀ + k)", "var": "i", "bound": "to", "takes": "rule to", "law": "pairs-turn"},
+    "write_row": {"call": "write_one", "turn": "asked T (rule .0) (pair (i .0) k)", "var": "j", "bound": "to", "takes": "rule i", "locals": "to", "opens": "row", "early": ROW_EARLY},
+    "write_pairs": {"call": "write_row", "turn": "row T (rule .0) (i₀ + k) (i₀ + k)", "var": "i", "bound": "to", "takes": "rule to", "law": "pairs-turn"},
     "write_rules": {"call": "write_rule", "turn": "entriesAt T (P k) k n", "var": "r", "bound": "rules", "takes": "n", "opens": "index", "skips": True},
 }
 
@@ -75,7 +79,7 @@ CASES = [
     (False, False, "write-one"),
     (False, True, "write-one"),
     (False, True, "write-one"),
-    (True, False, "write-each-broken"),
+    (True, False, "write-each"),
     (False, True, "write-neighbours"),
     (True, False, "write-pairs"),
 ]
@@ -178,7 +182,10 @@ def loop(crate, row, function, kind):
     step = "add-next" if "next" in kind else f"add-{var}"
     before, after = ([step], []) if "next" in kind else ([], [step])
     done = f"so-far-done _ ({back(1)} .loop .inv .{known}) (omega arith)"
+    early, law_of_none, told, paths = kind.get("early", (None, None, None, []))
+    first = {f"{early}-requires": "search needs", "returns": f"{law_of_none} {told}"} if early else {}
     answers = {
+        **first,
         "loop-holds": "(" + known * "omega arith, " + "so-far-none _ _ _ (omega arith) (omega arith))",
         **{need: "omega arith" for need in ["mul-at", *before, f"mul-{call}", f"sub-{call}", f"part-{call}-start"]},
         **{need: "search needs" for need in [f"part-{call}-end", f"{call}-requires", "joined-requires"]},
@@ -186,14 +193,14 @@ def loop(crate, row, function, kind):
         "loop-less": "omega arith",
         "loop-again": "\n    ".join(again),
         "same-length": "search needs",
-        "returns": (kind["opens"], done) if "opens" in kind else done,
+        "returns-2" if early else "returns": (kind["opens"], done) if "opens" in kind else done,
     }
     start = loop_start(row, kind)
     text = "\n".join(start) + " " + kind.get("opens", "")
     uses = [
         some("Prim.Native.Nat", (["_+_"] if "+" in kind["turn"] else []) + ["_-_", "_≤_", "_<_"]),
         "native.Mathlib.Omega.{arith}",
-        some("mathlib.Core.Path", ([] if law else ["refl"]) + (["_∙_"] if "skips" in kind else [])),
+        some("mathlib.Core.Path", ([] if law else ["refl"]) + paths + (["_∙_"] if "skips" in kind else [])),
         "mathlib.Core.Logic.{⊎-elim}" if "skips" in kind else None,
         "borrow.Author.Needs.{needs}",
         some("Rattle.faults.specs.Report", used(["certificate", "pair"], text)),
@@ -201,6 +208,7 @@ def loop(crate, row, function, kind):
         some("Rattle.faults.proofs.Laws", ["SoFar", "so-far-none", "so-far-more", *(["so-far-same"] if "skips" in kind else []), *([law] if law else []), "so-far-done"]),
         some(row["tables"], used([row["places"], "rules"], text)),
         some(row["specs"], used([row["test"]], text)),
+        f"Rattle.{crate}.proofs.Laws.{{{law_of_none.split()[0]}}}" if early else None,
     ]
     return proof(crate, function, "Each turn writes into what the turns before it left free.", uses, answers, start)
 

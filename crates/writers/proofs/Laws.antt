@@ -1,9 +1,9 @@
 -- What the proofs of the writers rest on. Assumes nothing.
 use Prim.Native.Nat.{ℕ, zero, suc, _+_, _-_, _<_}
 use native.Mathlib.Omega.{arith}
-use mathlib.Core.Path.{_≡_, refl, sym, _∙_}
+use mathlib.Core.Path.{_≡_, refl, sym, ap, _∙_}
 use mathlib.Core.List.{List, []}
-use mathlib.Core.Bool.{Bool, true, false, true≢false}
+use mathlib.Core.Bool.{Bool, true, false, not, true≢false, Bool·not-not}
 use Rattle.laws.specs.Lists.{any, rows}
 use Rattle.laws.proofs.Meaning.{some-any}
 use Rattle.model.specs.Model.{Chain, Lists}
@@ -40,11 +40,11 @@ gather-empty f zero h = refl
 gather-empty f (suc n) h = rw (gather-empty f n (λ k l. h k (omega arith)), h n (omega arith)) refl
 
 -- where no certificate from a up to e breaks the rule
-pub each-unbroken : (T : ℕ → Spot → Bool) (r a e : ℕ) (old : List ℕ) {t : Bool} → t ≡ any (T r) (rows certificate a e) → t ≡ false → Wrote (each T r a (e - a)) old old noneYet
+pub each-unbroken : (T : ℕ → Spot → Bool) (r a e : ℕ) (old : List ℕ) {t : Bool} → t ≡ any (T r) (rows certificate a e) → not t ≡ true → Wrote (each T r a (e - a)) old old noneYet
 unfolding asked one
 each-unbroken T r a e old {t} q h = rw (gather-empty (λ k. asked T r (certificate (a + k))) (e - a) empty) (wrote-none old) where
   holds : (k : ℕ) → k < e - a → (x : Bool) → T r (certificate (a + k)) ≡ x → x ≡ false
-  holds k l true y = absurd (true≢false (sym (some-any (T r) certificate a e (a + k, omega arith, omega arith, y)) ∙ sym q ∙ h))
+  holds k l true y = absurd (true≢false (sym (some-any (T r) certificate a e (a + k, omega arith, omega arith, y)) ∙ sym q ∙ sym (Bool·not-not t) ∙ ap not h))
   holds k l false y = refl
 
   empty : (k : ℕ) → k < e - a → asked T r (certificate (a + k)) ≡ []

@@ -38,7 +38,7 @@ fn write_one(
     faults::put(broken, Entry { rule, spot }, report)
 }
 
-// At each certificate from one up to, and without, another.
+// At each certificate from one up to, and without, another. Most rules are broken nowhere, and then nothing is lent.
 fn write_each(
     policy: Policy,
     rule: RuleNo,
@@ -52,6 +52,9 @@ fn write_each(
 ) -> Tally
     ensures { λ t. ⌜ Wrote (each (brokenIn policy (now (words .entry)) (now (bytes .entry)) (now (pwords .entry)) (now (pbytes .entry))) (rule .0) (from .0) (to - from .0)) (now (report .entry)) (now (report .exit)) t ⌝ }
 {
+    if !rules::any_breaks(policy, rule, from, to, words, bytes, pwords, pbytes) {
+        return NONE_YET;
+    }
     let mut tally = NONE_YET;
     let mut i = from.0;
     while i < to {
@@ -70,26 +73,6 @@ fn write_each(
         i += 1;
     }
     tally
-}
-
-// The same as `write_each`. Most rules are broken nowhere, and then nothing is lent.
-fn write_each_broken(
-    policy: Policy,
-    rule: RuleNo,
-    from: CertPos,
-    to: u32,
-    words: &[u64],
-    bytes: &[u8],
-    pwords: &[u64],
-    pbytes: &[u8],
-    report: &mut [u32],
-) -> Tally
-    ensures { λ t. ⌜ Wrote (each (brokenIn policy (now (words .entry)) (now (bytes .entry)) (now (pwords .entry)) (now (pbytes .entry))) (rule .0) (from .0) (to - from .0)) (now (report .entry)) (now (report .exit)) t ⌝ }
-{
-    if rules::any_breaks(policy, rule, from, to, words, bytes, pwords, pbytes) {
-        return write_each(policy, rule, from, to, words, bytes, pwords, pbytes, report);
-    }
-    NONE_YET
 }
 
 // At each pair of neighbours.
@@ -126,7 +109,7 @@ fn write_neighbours(
     tally
 }
 
-// At each pair of one certificate and another below it.
+// At each pair of one certificate and another below it. A certificate without constraints is passed over at once.
 fn write_row(
     policy: Policy,
     rule: RuleNo,
@@ -139,6 +122,9 @@ fn write_row(
 ) -> Tally
     ensures { λ t. ⌜ Wrote (row (brokenIn policy (now (words .entry)) (now (bytes .entry)) (now (pwords .entry)) (now (pbytes .entry))) (rule .0) (i .0) (i .0)) (now (report .entry)) (now (report .exit)) t ⌝ }
 {
+    if rules::asks_nothing(rule, i, words, bytes) {
+        return NONE_YET;
+    }
     let to = i.0;
     let mut tally = NONE_YET;
     let mut j: u32 = 0;
@@ -160,25 +146,6 @@ fn write_row(
     tally
 }
 
-// The same, but a certificate without constraints is passed over at once.
-fn write_row_asked(
-    policy: Policy,
-    rule: RuleNo,
-    i: CertPos,
-    words: &[u64],
-    bytes: &[u8],
-    pwords: &[u64],
-    pbytes: &[u8],
-    report: &mut [u32],
-) -> Tally
-    ensures { λ t. ⌜ Wrote (row (brokenIn policy (now (words .entry)) (now (bytes .entry)) (now (pwords .entry)) (now (pbytes .entry))) (rule .0) (i .0) (i .0)) (now (report .entry)) (now (report .exit)) t ⌝ }
-{
-    if rules::asks_nothing(rule, i, words, bytes) {
-        return NONE_YET;
-    }
-    write_row(policy, rule, i, words, bytes, pwords, pbytes, report)
-}
-
 // At each pair, the first from one certificate up to, and without, another.
 fn write_pairs(
     policy: Policy,
@@ -197,7 +164,7 @@ fn write_pairs(
     let mut i = from.0;
     while i < to {
         let at = 3 * tally.written;
-        let t = write_row_asked(
+        let t = write_row(
             policy,
             rule,
             CertPos(i),
@@ -238,7 +205,7 @@ fn write_rule(
         Places::LeafAndRoot => write_one(policy, rule, ends, words, bytes, pwords, pbytes, report),
         Places::Each(from, before) => {
             let to = faults::without(n, before);
-            write_each_broken(policy, rule, from, to, words, bytes, pwords, pbytes, report)
+            write_each(policy, rule, from, to, words, bytes, pwords, pbytes, report)
         }
         Places::Neighbours => {
             write_neighbours(policy, rule, last, words, bytes, pwords, pbytes, report)

@@ -6,6 +6,7 @@ use Rattle.faults.specs.Report.{certificate}
 use Rattle.faults.specs.Index.{asked}
 use Rattle.faults.proofs.Laws.{SoFar, so-far-none, so-far-more, each-turn, so-far-done}
 use Rattle.rules.specs.Rules.{brokenIn}
+use Rattle.writers.proofs.Laws.{each-unbroken}
 use Rattle.writers.proofs.write_each.Statement.{statement}
 use Rattle.writers.proofs.write_each.Tie as tie
 
@@ -15,6 +16,12 @@ Inv-loop policy rule to words bytes pwords pbytes report₀ tally₀ i₀ report
 
 abbrev μ-loop : tie.MeasureT-loop
 μ-loop policy rule to words bytes pwords pbytes report₀ tally₀ i₀ report tally i = to - i
+
+any-breaks-requires : tie.Need-any-breaks-requires Inv-loop μ-loop
+any-breaks-requires c κs = search needs
+
+returns : tie.Need-returns Inv-loop μ-loop
+returns c = each-unbroken _ _ _ _ _ (c .before .any-breaks .ensures) (c .if1 .taken)
 
 loop-holds : tie.Need-loop-holds Inv-loop μ-loop
 loop-holds c = (omega arith, omega arith, omega arith, so-far-none _ _ _ (omega arith) (omega arith))
@@ -59,8 +66,8 @@ loop-again c =
 same-length : tie.Need-same-length Inv-loop μ-loop
 same-length c = search needs
 
-returns : tie.Need-returns Inv-loop μ-loop
-returns c = so-far-done _ (c .before .loop .inv .3) (omega arith)
+returns-2 : tie.Need-returns-2 Inv-loop μ-loop
+returns-2 c = so-far-done _ (c .before .loop .inv .3) (omega arith)
 
 pub write-each-spec : {M : Type 1} → statement M
 write-each-spec =
@@ -68,6 +75,8 @@ write-each-spec =
     (tie.spec
     Inv-loop
     μ-loop
+    any-breaks-requires
+    returns
     loop-holds
     mul-at
     mul-write-one
@@ -80,4 +89,4 @@ write-each-spec =
     loop-less
     loop-again
     same-length
-    returns)
+    returns-2)

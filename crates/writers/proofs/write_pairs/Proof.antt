@@ -21,20 +21,20 @@ loop-holds c = (omega arith, omega arith, omega arith, so-far-none _ _ _ (omega 
 mul-at : tie.Need-mul-at Inv-loop μ-loop
 mul-at c = omega arith
 
-mul-write-row-asked : tie.Need-mul-write-row-asked Inv-loop μ-loop
-mul-write-row-asked c = omega arith
+mul-write-row : tie.Need-mul-write-row Inv-loop μ-loop
+mul-write-row c = omega arith
 
-sub-write-row-asked : tie.Need-sub-write-row-asked Inv-loop μ-loop
-sub-write-row-asked c = omega arith
+sub-write-row : tie.Need-sub-write-row Inv-loop μ-loop
+sub-write-row c = omega arith
 
-part-write-row-asked-start : tie.Need-part-write-row-asked-start Inv-loop μ-loop
-part-write-row-asked-start c = omega arith
+part-write-row-start : tie.Need-part-write-row-start Inv-loop μ-loop
+part-write-row-start c = omega arith
 
-part-write-row-asked-end : tie.Need-part-write-row-asked-end Inv-loop μ-loop
-part-write-row-asked-end c = search needs
+part-write-row-end : tie.Need-part-write-row-end Inv-loop μ-loop
+part-write-row-end c = search needs
 
-write-row-asked-requires : tie.Need-write-row-asked-requires Inv-loop μ-loop
-write-row-asked-requires c κs = search needs
+write-row-requires : tie.Need-write-row-requires Inv-loop μ-loop
+write-row-requires c κs = search needs
 
 joined-requires : tie.Need-joined-requires Inv-loop μ-loop
 joined-requires c κs = search needs
@@ -52,7 +52,7 @@ loop-again c =
       omega arith,
       omega arith,
       omega arith,
-      so-far-more _ (omega arith) (l .inv .3) (p .write-row-asked .ensures) (pairs-turn _ _ (l .inv .0)) (c .joined .ensures),
+      so-far-more _ (omega arith) (l .inv .3) (p .write-row .ensures) (pairs-turn _ _ (l .inv .0)) (c .joined .ensures),
     )
 
 same-length : tie.Need-same-length Inv-loop μ-loop
@@ -69,11 +69,11 @@ write-pairs-spec =
     μ-loop
     loop-holds
     mul-at
-    mul-write-row-asked
-    sub-write-row-asked
-    part-write-row-asked-start
-    part-write-row-asked-end
-    write-row-asked-requires
+    mul-write-row
+    sub-write-row
+    part-write-row-start
+    part-write-row-end
+    write-row-requires
     joined-requires
     add-i
     loop-less

@@ -1,12 +1,13 @@
 -- Each turn writes into what the turns before it left free. Written by tools/reports.py. Assumes nothing.
 use Prim.Native.Nat.{_-_, _≤_, _<_}
 use native.Mathlib.Omega.{arith}
-use mathlib.Core.Path.{refl}
+use mathlib.Core.Path.{refl, sym, _∙_}
 use borrow.Author.Needs.{needs}
 use Rattle.faults.specs.Report.{pair}
 use Rattle.faults.specs.Index.{asked, row}
 use Rattle.faults.proofs.Laws.{SoFar, so-far-none, so-far-more, so-far-done}
 use Rattle.rules.specs.Rules.{brokenIn}
+use Rattle.writers.proofs.Laws.{row-unasked}
 use Rattle.writers.proofs.write_row.Statement.{statement}
 use Rattle.writers.proofs.write_row.Tie as tie
 
@@ -16,6 +17,12 @@ Inv-loop policy rule i words bytes pwords pbytes report₀ to tally₀ j₀ repo
 
 abbrev μ-loop : tie.MeasureT-loop
 μ-loop policy rule i words bytes pwords pbytes report₀ to tally₀ j₀ report tally j = to - j
+
+asks-nothing-requires : tie.Need-asks-nothing-requires Inv-loop μ-loop
+asks-nothing-requires c κs = search needs
+
+returns : tie.Need-returns Inv-loop μ-loop
+returns c = row-unasked _ _ _ _ _ _ (sym (c .before .asks-nothing .ensures) ∙ c .if1 .taken)
 
 loop-holds : tie.Need-loop-holds Inv-loop μ-loop
 loop-holds c = (omega arith, omega arith, so-far-none _ _ _ (omega arith) (omega arith))
@@ -59,9 +66,9 @@ loop-again c =
 same-length : tie.Need-same-length Inv-loop μ-loop
 same-length c = search needs
 
-returns : tie.Need-returns Inv-loop μ-loop
+returns-2 : tie.Need-returns-2 Inv-loop μ-loop
 unfolding row
-returns c = so-far-done _ (c .before .loop .inv .2) (omega arith)
+returns-2 c = so-far-done _ (c .before .loop .inv .2) (omega arith)
 
 pub write-row-spec : {M : Type 1} → statement M
 write-row-spec =
@@ -69,6 +76,8 @@ write-row-spec =
     (tie.spec
     Inv-loop
     μ-loop
+    asks-nothing-requires
+    returns
     loop-holds
     mul-at
     mul-write-one
@@ -81,4 +90,4 @@ write-row-spec =
     loop-less
     loop-again
     same-length
-    returns)
+    returns-2)

@@ -38,8 +38,8 @@ enum-known-places c = search needs
 without-requires-2 : tie.Need-without-requires-2
 without-requires-2 c κs = search needs
 
-write-each-broken-requires : tie.Need-write-each-broken-requires
-write-each-broken-requires c κs = search needs
+write-each-requires : tie.Need-write-each-requires
+write-each-requires c κs = search needs
 
 enum-told-5 : tie.Need-enum-told-5
 enum-told-5 c = search needs
@@ -86,7 +86,7 @@ same-length-4 c = search needs
 
 returns-5 : tie.Need-returns-5
 unfolding entriesAt
-returns-5 c = rw (← c .before .before .before .before .before .before .before .before .before .places-of .ensures, c .before .before .before .before .before .before .places .given .1, ← c .before .before .before .before .without2 .ensures) (c .before .before .write-each-broken .ensures)
+returns-5 c = rw (← c .before .before .before .before .before .before .before .before .before .places-of .ensures, c .before .before .before .before .before .before .places .given .1, ← c .before .before .before .before .without2 .ensures) (c .before .before .write-each .ensures)
 
 same-length-5 : tie.Need-same-length-5
 same-length-5 c = search needs
@@ -117,7 +117,7 @@ write-rule-spec =
     write-one-requires-3
     enum-known-places
     without-requires-2
-    write-each-broken-requires
+    write-each-requires
     enum-told-5
     write-neighbours-requires
     enum-known-places-2
