@@ -17,7 +17,7 @@ rows-in-requires c κs = search needs
 
 returns : tie.Need-returns
 unfolding certRange
-returns c = cc
+returns c = rw (← c .before .before .cert-word .ensures, ← c .before .cert-word2 .ensures) (c .rows-in .ensures)
 
 pub cert-range-spec : {M : Type 1} → statement M
 cert-range-spec =

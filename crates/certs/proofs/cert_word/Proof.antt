@@ -8,7 +8,7 @@ field-requires c κs = search needs
 
 returns : tie.Need-returns
 unfolding certWord
-returns c = cc
+returns c = c .field .ensures
 
 pub cert-word-spec : {M : Type 1} → statement M
 cert-word-spec = tie.close (tie.spec field-requires returns)

@@ -8,7 +8,7 @@ field-requires c κs = search needs
 
 returns : tie.Need-returns
 unfolding kindAt
-returns c = cc
+returns c = c .field .ensures
 
 pub kind-spec : {M : Type 1} → statement M
 kind-spec = tie.close (tie.spec field-requires returns)

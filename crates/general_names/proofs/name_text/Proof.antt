@@ -11,7 +11,7 @@ string-requires c κs = search needs
 
 returns : tie.Need-returns
 unfolding nameText
-returns c = cc
+returns c = rw (← c .before .field .ensures) (c .string .ensures)
 
 pub name-text-spec : {M : Type 1} → statement M
 name-text-spec = tie.close (tie.spec field-requires string-requires returns)

@@ -14,7 +14,7 @@ rows-in-requires c κs = search needs
 
 returns : tie.Need-returns
 unfolding rdnRange
-returns c = cc
+returns c = rw (← c .before .before .field .ensures, ← c .before .field2 .ensures) (c .rows-in .ensures)
 
 pub rdn-spec : {M : Type 1} → statement M
 rdn-spec = tie.close (tie.spec field-requires field-requires-2 rows-in-requires returns)

@@ -8,7 +8,7 @@ field-requires c κs = search needs
 
 returns : tie.Need-returns
 unfolding usageWord
-returns c = cc
+returns c = c .field .ensures
 
 pub usage-spec : {M : Type 1} → statement M
 usage-spec = tie.close (tie.spec field-requires returns)
