@@ -1,4 +1,4 @@
-"""The proofs of functions that look at one thing after the other: in crate lines sections, lines and groups of lines, in crate search the rows of a line."""
+"""The proofs of functions that look at one thing after the other: in crate sections the sections, in crate lines lines and groups of lines, in crate search the rows of a line."""
 
 # A function that looks at lines: its list in specs/Tables, and for each line the function that it calls.
 HEADER, ROWS, CERTS, MARK, RANGE, LIST = "in_header", "in_rows", "in_certs", "mark_over", "list_out", "in_list"
@@ -49,10 +49,10 @@ def numbered(calls):
         yield dashed(call) + (str(k) if k > 1 else ""), dashed(call) + "-requires" + (f"-{k}" if k > 1 else "")
 
 
-def proof(name, calls, uses, returns):
+def proof(crate, name, calls, uses, returns):
     """returns(facts) puts together what the calls ensure."""
     calls = list(numbered(calls))
-    module = f"Rattle.lines.proofs.{name}"
+    module = f"Rattle.{crate}.proofs.{name}"
     lines = [f"use {use}" for use in uses + ["borrow.Author.Needs.{needs}", module + ".Statement.{statement}", module + ".Tie as tie"]]
     for _, need in calls:
         lines += ["", f"{need} : tie.Need-{need}", f"{need} c κs = search needs"]
@@ -78,17 +78,17 @@ def nested(found, facts):
 
 
 def of_lines(name, calls):
-    uses = ["Rattle.search.specs.Found.{foundIn}", "Rattle.lines.proofs.Each.{each-more, each-done}"]
-    return proof(name, calls, uses, lambda facts: nested("(foundIn _ _)", facts))
+    uses = ["Rattle.sections.proofs.Each.{each-more, each-done}", "Rattle.search.specs.Found.{foundIn}"]
+    return proof("lines", name, calls, uses, lambda facts: nested("(foundIn _ _)", facts))
 
 
 def of_sections(name, header, count):
     uses = [
         "Rattle.model.specs.Sections.{%s}" % header,
-        "Rattle.search.specs.Found.{foundSection}",
-        "Rattle.lines.proofs.Each.{each-more, each-done}",
+        "Rattle.sections.specs.Placed.{foundSection}",
+        "Rattle.sections.proofs.Each.{each-more, each-done}",
     ]
-    return proof(name, count * ["with_section"], uses, lambda facts: nested(f"(foundSection {header} _)", facts))
+    return proof("sections", name, count * ["with_section"], uses, lambda facts: nested(f"(foundSection {header} _)", facts))
 
 
 def of_groups(name, groups):
@@ -96,16 +96,16 @@ def of_groups(name, groups):
     rest = lambda k: lists[k] if k == len(lists) - 1 else f"({lists[k]} ++ {rest(k + 1)})"
     uses = ["mathlib.Core.List.{_++_}"] if len(lists) > 2 else []
     uses += [
+        "Rattle.sections.proofs.Each.{each-then}",
         "Rattle.search.specs.Found.{foundIn}",
         "Rattle.lines.specs.Tables.{%s}" % ", ".join(lists),
-        "Rattle.lines.proofs.Each.{each-then}",
     ]
 
     def returns(facts):
         then = [f"each-then (foundIn _ _) {lists[k]} {rest(k + 1)} _ {fact} " for k, fact in enumerate(facts[:-1])]
         return "(".join(then) + facts[-1] + (len(then) - 1) * ")"
 
-    return proof(name, groups, uses, returns)
+    return proof("lines", name, groups, uses, returns)
 
 
 def of_loop(name, parameters, sums, test, definition):
@@ -165,8 +165,8 @@ def of_loop(name, parameters, sums, test, definition):
 
 
 def files():
-    made = {name: of_lines(name, calls) for name, calls in LINES.items()}
-    made |= {name: of_sections(name, *section) for name, section in SECTIONS.items()}
-    made |= {name: of_groups(name, groups) for name, groups in GROUPS.items()}
-    written = {f"crates/lines/proofs/{name}/Proof.antt": text for name, text in made.items()}
-    return written | {f"crates/search/proofs/{name}/Proof.antt": of_loop(name, *loop) for name, loop in LOOPS.items()}
+    made = {("lines", name): of_lines(name, calls) for name, calls in LINES.items()}
+    made |= {("lines", name): of_groups(name, groups) for name, groups in GROUPS.items()}
+    made |= {("sections", name): of_sections(name, *section) for name, section in SECTIONS.items()}
+    made |= {("search", name): of_loop(name, *loop) for name, loop in LOOPS.items()}
+    return {f"crates/{crate}/proofs/{name}/Proof.antt": text for (crate, name), text in made.items()}

@@ -13,9 +13,10 @@ use Rattle.ascii.specs.Bytes.{isHigh}
 use Rattle.table.specs.Table.{word, countOf, offsetOf, strings, stringOf}
 use Rattle.table.specs.declared.Section.{Section}
 use Rattle.model.specs.Sections.{rdns}
+use Rattle.sections.specs.Placed.{misplaced}
 use Rattle.search.specs.declared.Line.{Line}
 use Rattle.row_tests.specs.Wrong.{noString, noOptional, noRange, over, highString, stringOut, nameOut, wrong}
-use Rattle.search.specs.Rows.{rowsOf, rowAt, misplaced}
+use Rattle.search.specs.Rows.{rowsOf, rowAt}
 use Rattle.sound.specs.Fault.{Layout, Fault, size, otherEdition, section, row, edition, InLine}
 
 untrue : (x : Bool) → (x ≡ true → ⊥) → x ≡ false

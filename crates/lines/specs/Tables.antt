@@ -2,7 +2,6 @@
 use Prim.Native.Nat.{ℕ}
 use mathlib.Core.List.{List, [], _∷_, _++_}
 use Rattle.table.specs.Table.{strings}
-use Rattle.table.specs.declared.Section.{Section}
 use Rattle.model.specs.Sections.{attributes, rdns, names, usages, certs, entries}
 use Rattle.search.specs.declared.Block.{Block}
 use Rattle.search.specs.declared.Block.the-variants.{Header, All, Listed}
@@ -111,10 +110,6 @@ namesHigh =
 abbrev pub chainLines : List Line
 chainLines = tablesOut ++ (certStringsOut ++ (certRangesOut ++ (codesOver ++ (marksOver ++ namesHigh))))
 
--- the sections, for refusal 4
-abbrev pub chainSections : List Section
-chainSections = strings ∷ attributes ∷ rdns ∷ names ∷ usages ∷ certs ∷ []
-
 -- ---- the policy bundle
 -- 5: a string, in the bytes, an entry of L, and the ranges of the nine lists
 abbrev pub listsOut : List Line
@@ -142,6 +137,3 @@ entriesHigh =
 
 abbrev pub policyLines : List Line
 policyLines = listsOut ++ entriesHigh
-
-abbrev pub policySections : List Section
-policySections = strings ∷ entries ∷ []

@@ -1,9 +1,9 @@
-// What the tables ask of the two bundles: where their sections may lie, and the words of their rows, line by line.
+// What the tables ask of the words of the rows of the two bundles, line by line.
 ghost use mathlib.Core.Path.{_≡_};
-ghost use Rattle.model.specs.Sections.{chainHeader, policyHeader, entries};
-ghost use Rattle.search.specs.Found.{earlierOf, foundSection, foundIn};
-ghost use Rattle.lines.specs.Each.{foundEach};
-ghost use Rattle.lines.specs.Tables.{line, cert, chainSections, policySections, tablesOut, certStringsOut, certRangesOut, codesOver, marksOver, namesHigh, chainLines, listsOut, entriesHigh, policyLines};
+ghost use Rattle.model.specs.Sections.{entries};
+ghost use Rattle.sections.specs.Found.{earlierOf, foundEach};
+ghost use Rattle.search.specs.Found.{foundIn};
+ghost use Rattle.lines.specs.Tables.{line, cert, tablesOut, certStringsOut, certRangesOut, codesOver, marksOver, namesHigh, chainLines, listsOut, entriesHigh, policyLines};
 use model::chain::ATTRIBUTES;
 use model::chain::CERTS;
 use model::chain::NAMES;
@@ -12,38 +12,11 @@ use model::chain::USAGES;
 use model::policy::ENTRIES;
 use row_tests::Test;
 use search::Block;
-use search::Found;
 use search::Line;
 use search::with_line;
-use search::with_section;
+use sections::Found;
 use table::STRINGS;
 use table::Section;
-
-// The words of a chain bundle's header.
-pub const CHAIN_HEADER: usize = 16;
-
-// The words of a policy bundle's header.
-pub const POLICY_HEADER: usize = 23;
-
-// The first misplaced section of a chain bundle.
-pub fn chain_misplaced(words: &[u64]) -> Found
-    ensures { λ r. ⌜ r ≡ foundEach (foundSection chainHeader (now (words .entry))) Found.Clear chainSections ⌝ }
-{
-    let f = with_section(words, CHAIN_HEADER, Found::Clear, STRINGS);
-    let f = with_section(words, CHAIN_HEADER, f, ATTRIBUTES);
-    let f = with_section(words, CHAIN_HEADER, f, RDNS);
-    let f = with_section(words, CHAIN_HEADER, f, NAMES);
-    let f = with_section(words, CHAIN_HEADER, f, USAGES);
-    with_section(words, CHAIN_HEADER, f, CERTS)
-}
-
-// The same of a policy bundle.
-pub fn policy_misplaced(words: &[u64]) -> Found
-    ensures { λ r. ⌜ r ≡ foundEach (foundSection policyHeader (now (words .entry))) Found.Clear policySections ⌝ }
-{
-    let f = with_section(words, POLICY_HEADER, Found::Clear, STRINGS);
-    with_section(words, POLICY_HEADER, f, ENTRIES)
-}
 
 // A word of the header.
 fn in_header(words: &[u64], bytes: &[u8], f: Found, number: u64, word: u8, test: Test) -> Found

@@ -6,10 +6,10 @@ use mathlib.Core.Bool.{Bool, true, false, not, _&&_, and-assoc, and-true}
 use Rattle.laws.specs.Lists.{all}
 use Rattle.table.specs.Table.{strings}
 use Rattle.model.specs.Sections.{chainHeader, attributes, rdns, names, usages, certs}
+use Rattle.sections.specs.Placed.{misplaced, chainSections}
 use Rattle.search.specs.declared.Line.{Line}
 use Rattle.search.specs.declared.Block.the-variants.{Header, All}
-use Rattle.search.specs.Rows.{misplaced}
-use Rattle.lines.specs.Tables.{chainSections, chainLines}
+use Rattle.lines.specs.Tables.{chainLines}
 use Rattle.quick_certs.specs.Asked.{rowFine, rowsFine, linesOf, certsFine, Lies}
 use Rattle.quick.specs.Fine.{allPlaced, lineFine, allFine, chainFine}
 use Rattle.quick.specs.Asked.{stringLine, StringsLie}

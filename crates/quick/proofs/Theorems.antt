@@ -9,9 +9,10 @@ use Rattle.laws.specs.Lists.{all}
 use Rattle.laws.proofs.Meaning.{all-every, every-all}
 use Rattle.laws.proofs.Tests.{and-left, and-right}
 use Rattle.table.specs.declared.Section.{Section}
+use Rattle.sections.specs.Placed.{misplaced}
 use Rattle.row_tests.specs.Wrong.{wrong}
 use Rattle.search.specs.declared.Line.{Line}
-use Rattle.search.specs.Rows.{rowsOf, rowAt, misplaced}
+use Rattle.search.specs.Rows.{rowsOf, rowAt}
 use Rattle.quick.specs.Fine.{allPlaced, lineFine, allFine}
 use Rattle.quick.specs.Stated.{AllFine}
 use Rattle.quick.proofs.Whole.{all-member, placed-in}

@@ -9,11 +9,12 @@ use borrow.Author.Tests.{not-true}
 use Rattle.laws.specs.Lists.{pick, run, rows, numbers, all}
 use Rattle.laws.proofs.Tests.{and-left, and-right}
 use Rattle.table.specs.declared.Section.{Section}
+use Rattle.sections.specs.Placed.{misplaced}
 use Rattle.row_tests.specs.Wrong.{wrong}
 use Rattle.search.specs.declared.Line.{Line}
 use Rattle.search.specs.declared.Block.{Block}
 use Rattle.search.specs.declared.Block.the-variants.{Header}
-use Rattle.search.specs.Rows.{rowsOf, rowAt, misplaced}
+use Rattle.search.specs.Rows.{rowsOf, rowAt}
 use Rattle.quick_certs.specs.Asked.{rowFine, rowsFine, countWord, linesOf, Lies}
 use Rattle.quick_certs.proofs.Steps.{placed-lies}
 use Rattle.quick.specs.Fine.{allPlaced, lineFine}

@@ -5,10 +5,11 @@ use mathlib.Core.Bool.{Bool, not, _&&_}
 use Rattle.laws.specs.Lists.{numbers, all}
 use Rattle.table.specs.declared.Section.{Section}
 use Rattle.model.specs.Sections.{chainHeader}
+use Rattle.sections.specs.Placed.{misplaced, chainSections}
 use Rattle.row_tests.specs.Wrong.{wrong}
 use Rattle.search.specs.declared.Line.{Line}
-use Rattle.search.specs.Rows.{rowsOf, rowAt, misplaced}
-use Rattle.lines.specs.Tables.{chainLines, chainSections}
+use Rattle.search.specs.Rows.{rowsOf, rowAt}
+use Rattle.lines.specs.Tables.{chainLines}
 
 -- no section is misplaced
 unfoldable pub allPlaced : ℕ → List Section → List ℕ → Bool

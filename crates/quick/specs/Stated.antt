@@ -4,9 +4,10 @@ use mathlib.Core.Path.{_≡_}
 use mathlib.Core.List.{List, List·Memᴰ}
 use mathlib.Core.Bool.{false}
 use Rattle.table.specs.declared.Section.{Section}
+use Rattle.sections.specs.Placed.{misplaced}
 use Rattle.row_tests.specs.Wrong.{wrong}
 use Rattle.search.specs.declared.Line.{Line}
-use Rattle.search.specs.Rows.{rowsOf, rowAt, misplaced}
+use Rattle.search.specs.Rows.{rowsOf, rowAt}
 
 pub record AllFine (header : ℕ) (sections : List Section) (lines : List Line) (w b : List ℕ) : Type 0 where
   -- every section is in its place

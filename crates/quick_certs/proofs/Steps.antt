@@ -12,8 +12,9 @@ use Rattle.laws.proofs.Tests.{or-right}
 use Rattle.table.specs.Table.{countOf, offsetOf}
 use Rattle.table.specs.declared.Section.{Section}
 use Rattle.model.specs.Sections.{chainHeader, certs}
+use Rattle.sections.specs.Placed.{misplaced}
 use Rattle.search.specs.declared.Block.the-variants.{All}
-use Rattle.search.specs.Rows.{rowsOf, misplaced}
+use Rattle.search.specs.Rows.{rowsOf}
 use Rattle.lines.specs.Tables.{chainLines}
 use Rattle.quick_certs.specs.Asked.{rowFine, rowsFine, linesOf, certsFine, Lies}
 

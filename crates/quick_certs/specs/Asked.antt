@@ -9,11 +9,12 @@ use Rattle.laws.specs.Lists.{pick, numbers, all}
 use Rattle.table.specs.Table.{countOf, offsetOf, strings}
 use Rattle.table.specs.declared.Section.{Section}
 use Rattle.model.specs.Sections.{chainHeader, rdns, names, usages, certs}
+use Rattle.sections.specs.Placed.{misplaced}
 use Rattle.row_tests.specs.Wrong.{wrong}
 use Rattle.search.specs.declared.Line.{Line}
 use Rattle.search.specs.declared.Block.{Block}
 use Rattle.search.specs.declared.Block.the-variants.{Header, All, Listed}
-use Rattle.search.specs.Rows.{rowsOf, rowAt, misplaced}
+use Rattle.search.specs.Rows.{rowsOf, rowAt}
 use Rattle.lines.specs.Tables.{chainLines}
 use Rattle.quick_certs.specs.declared.Counts.{Counts}
 

@@ -11,13 +11,13 @@ ghost use Rattle.model.specs.Sections.{certs as certRows};
 ghost use Rattle.row_tests.specs.Wrong.{there, somePart, extensionsWrong};
 ghost use Rattle.lines.specs.Tables.{certStringsOut, certRangesOut, codesOver, marksOver, chainLines};
 ghost use Rattle.quick_certs.specs.Asked.{rowFine, linesOf, certsFine, Counted};
-use lines::CHAIN_HEADER;
 use model::chain::CERTS;
 use model::chain::NAMES;
 use model::chain::RDNS;
 use model::chain::USAGES;
 use row_tests::ends_past;
-use search::is_misplaced;
+use sections::CHAIN_HEADER;
+use sections::is_misplaced;
 use table::STRINGS;
 
 // How many rows the sections have that a certificate points into.

@@ -1,25 +1,19 @@
--- The first fault of a section and of a line, and the first of two. That a check made of them names the first of all faults is proved in `sound`. Assumes nothing.
+-- The first fault of a line. That a check made of lines names the first of all faults is proved in `sound`. Assumes nothing.
 use Prim.Native.Nat.{ℕ, _+_}
 use mathlib.Core.List.{List}
-use mathlib.Core.Bool.{Bool, true, false, not, _&&_, _||_}
-use lib.Dec.{eqb, ltb}
+use mathlib.Core.Bool.{Bool, true, false, not}
+use lib.Dec.{ltb}
 use Rattle.laws.specs.Lists.{least, pick}
-use Rattle.table.specs.declared.Section.{Section}
 use Rattle.model.specs.Sections.{entries}
+use Rattle.sections.specs.declared.Found.{Found}
+use Rattle.sections.specs.declared.Found.the-variants.{Clear, At}
+use Rattle.sections.specs.Placed.{misplaced}
 use Rattle.search.specs.declared.Block.{Block}
 use Rattle.search.specs.declared.Block.the-variants.{Header, All, Listed}
 use Rattle.search.specs.declared.Line.{Line}
 use Rattle.search.specs.declared.Rows.{Rows}
-use Rattle.search.specs.declared.Found.{Found}
-use Rattle.search.specs.declared.Found.the-variants.{Clear, At}
-use Rattle.search.specs.Rows.{noRows, rowsOf, rowAt, misplaced}
+use Rattle.search.specs.Rows.{noRows, rowsOf, rowAt}
 use Rattle.row_tests.specs.Wrong.{wrong}
-
--- the one that goes before the other
-abbrev pub earlierOf : Found → Found → Found
-earlierOf Clear g = g
-earlierOf (At n p) Clear = At n p
-earlierOf (At n p) (At m q) = pick (ltb m n || (eqb m n && ltb q p)) (At m q) (At n p)
 
 -- a fault was found that goes before every fault of refusal n
 abbrev pub settled : Found → ℕ → Bool
@@ -47,7 +41,3 @@ foundAt l r i = pick (ltb i (r .count)) (At (l .number) (rowAt r i + l .word)) C
 -- a line's first fault in the rows that are searched
 unfoldable pub foundIn : List ℕ → List ℕ → Line → Found
 foundIn w b l = foundAt l (searched w (l .block)) (firstRow w b l (searched w (l .block)))
-
--- whether a section is misplaced, at the word of its count
-unfoldable pub foundSection : ℕ → List ℕ → Section → Found
-foundSection header w s = pick (misplaced header w s) (At 4 (s .count)) Clear

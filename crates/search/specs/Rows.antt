@@ -1,12 +1,9 @@
--- Where the rows of a line stand, and when a section is misplaced (document 01, "What the judge says"). Assumes nothing.
+-- Where the rows of a line stand (document 01, "What the judge says"). Assumes nothing.
 use Prim.Native.Nat.{ℕ, _+_, _-_, _*_}
 use mathlib.Core.List.{List}
-use mathlib.Core.Bool.{Bool, _||_}
 use lib.Dec.{ltb}
-use lib.ListN.{length}
 use Rattle.laws.specs.Lists.{pick}
 use Rattle.table.specs.Table.{word, countOf, offsetOf}
-use Rattle.table.specs.declared.Section.{Section}
 use Rattle.table.specs.declared.Range.{Range}
 use Rattle.model.specs.Sections.{entries}
 use Rattle.model.specs.Decode.{rowsIn}
@@ -31,7 +28,3 @@ rowsOf w (Listed p) = rangeRows (offsetOf w entries) (rowsIn w entries (word w p
 -- where row i begins
 abbrev pub rowAt : Rows → ℕ → ℕ
 rowAt r i = r .at + r .size * i
-
--- a section, even an empty one, begins in the header or ends past the words
-unfoldable pub misplaced : ℕ → List ℕ → Section → Bool
-misplaced header w s = ltb (offsetOf w s) header || ltb (length w) (offsetOf w s + s .size * countOf w s)

@@ -1,16 +1,18 @@
-// The search for the first fault of a bundle, a section or a line at a time. The public functions ask nothing of their caller.
+// The search for the first fault of a line. The public function asks nothing of its caller.
 ghost use mathlib.Core.Path.{_≡_};
 ghost use Prim.Native.Nat.{_+_, _≤_};
-ghost use mathlib.Core.Bool.{_&&_, _||_};
-ghost use lib.Dec.{eqb, ltb};
 ghost use lib.ListN.{length};
 ghost use Rattle.laws.specs.Lists.{least};
 ghost use Rattle.table.specs.Table.{word as wordOf};
+ghost use Rattle.sections.specs.Found.{earlierOf};
 ghost use Rattle.row_tests.specs.Wrong.{noString, noRange, highString, stringOut, wrong};
-ghost use Rattle.search.specs.Found.{earlierOf, settled, searched, foundSection, firstRow, foundIn};
-ghost use Rattle.search.specs.Rows.{rowAt, misplaced};
+ghost use Rattle.search.specs.Found.{settled, searched, firstRow, foundIn};
+ghost use Rattle.search.specs.Rows.{rowAt};
 use model::policy::ENTRIES;
 use row_tests::Test;
+use sections::Found;
+use sections::earlier;
+use sections::is_misplaced;
 use table::Section;
 use table::word;
 
@@ -36,70 +38,11 @@ pub struct Rows {
     pub count: usize,
 }
 
-// The first fault so far: a refusal's number and its word.
-pub enum Found {
-    Clear,
-    At(u64, usize),
-}
-
 const NO_ROWS: Rows = Rows {
     at: 0,
     size: 0,
     count: 0,
 };
-
-// Whether refusal n at the word p goes before refusal m at the word q.
-fn goes_before(n: u64, p: usize, m: u64, q: usize) -> bool
-    ensures { λ r. ⌜ r ≡ (ltb n m || (eqb n m && ltb p q)) ⌝ }
-{
-    (n < m) | ((n == m) & (p < q))
-}
-
-// The first of what was found so far and refusal n at the word p.
-fn earlier(f: Found, n: u64, p: usize) -> Found
-    ensures { λ r. ⌜ r ≡ earlierOf f (Found.At n p) ⌝ }
-{
-    match f {
-        Found::Clear => Found::At(n, p),
-        Found::At(m, q) => {
-            if goes_before(n, p, m, q) {
-                Found::At(n, p)
-            } else {
-                Found::At(m, q)
-            }
-        }
-    }
-}
-
-// Whether a section begins in the header or ends past the words, by a division, which can't wrap.
-pub fn is_misplaced(words: &[u64], header: usize, s: Section) -> bool
-    ensures { λ r. ⌜ r ≡ misplaced header (now (words .entry)) s ⌝ }
-{
-    let total = words.len() as u64;
-    let at = table::offset(words, s);
-    let size = s.size;
-    if at < header as u64 {
-        return true;
-    }
-    if total < at {
-        return true;
-    }
-    if size == 0 {
-        return false;
-    }
-    (total - at) / size < table::count(words, s)
-}
-
-// The first of f and of a misplaced section.
-pub fn with_section(words: &[u64], header: usize, f: Found, s: Section) -> Found
-    ensures { λ r. ⌜ r ≡ earlierOf f (foundSection header (now (words .entry)) s) ⌝ }
-{
-    let place = s.count;
-    if is_misplaced(words, header, s) {
-        return earlier(f, 4, place);
-    }
-    f
-}
 
 // Every row of a section, if it lies in the words: what is not there is not read.
 fn section_rows(words: &[u64], s: Section) -> Rows

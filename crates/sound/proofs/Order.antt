@@ -13,15 +13,16 @@ use Rattle.laws.specs.Lists.{pick, Least}
 use Rattle.laws.proofs.Meaning.{least-is}
 use Rattle.laws.proofs.Tests.{and-left, and-right, or-left, or-right}
 use Rattle.table.specs.declared.Section.{Section}
+use Rattle.sections.specs.declared.Found.{Found}
+use Rattle.sections.specs.declared.Found.the-variants.{Clear, At}
+use Rattle.sections.specs.Found.{earlierOf, foundEach}
+use Rattle.sections.specs.Placed.{misplaced, foundSection}
 use Rattle.row_tests.specs.Wrong.{wrong}
 use Rattle.search.specs.declared.Line.{Line}
-use Rattle.search.specs.declared.Found.{Found}
-use Rattle.search.specs.declared.Found.the-variants.{Clear, At}
-use Rattle.search.specs.Rows.{rowsOf, rowAt, misplaced}
-use Rattle.search.specs.Found.{earlierOf, inWords, searched, firstRow, foundAt, foundIn, foundSection}
+use Rattle.search.specs.Rows.{rowsOf, rowAt}
+use Rattle.search.specs.Found.{inWords, searched, firstRow, foundAt, foundIn}
 use Rattle.sound.specs.Answer.{Before, First}
 use Rattle.sound.specs.Fault.{InLine}
-use Rattle.lines.specs.Each.{foundEach}
 
 -- what was found is the first of the faults F
 abbrev pub FirstOf : (ℕ → ℕ → Type 0) → Found → Type 0

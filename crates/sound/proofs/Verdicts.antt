@@ -9,12 +9,14 @@ use mathlib.Core.Bool.{Bool, true, false, not, true≢false}
 use lib.Dec.{eqb}
 use Rattle.table.specs.Table.{word}
 use Rattle.table.specs.declared.Section.{Section}
+use Rattle.sections.specs.declared.Found.{Found}
+use Rattle.sections.specs.declared.Found.the-variants.{Clear, At}
+use Rattle.sections.specs.Found.{foundEach}
+use Rattle.sections.specs.Placed.{misplaced, foundSection}
 use Rattle.row_tests.specs.Wrong.{wrong}
 use Rattle.search.specs.declared.Line.{Line}
-use Rattle.search.specs.declared.Found.{Found}
-use Rattle.search.specs.declared.Found.the-variants.{Clear, At}
-use Rattle.search.specs.Rows.{rowsOf, rowAt, misplaced}
-use Rattle.search.specs.Found.{foundIn, foundSection}
+use Rattle.search.specs.Rows.{rowsOf, rowAt}
+use Rattle.search.specs.Found.{foundIn}
 use Rattle.sound.specs.declared.Bundle.{Bundle}
 use Rattle.sound.specs.declared.Bundle.the-variants.{Chain, Policy}
 use Rattle.sound.specs.declared.Place.{Place}
@@ -23,7 +25,6 @@ use Rattle.sound.specs.declared.Checked.{Checked}
 use Rattle.sound.specs.declared.Checked.the-variants.{Sound, Refused}
 use Rattle.sound.specs.Answer.{bundleNumber, placeKind, placeFirst, Before, First, Verdict}
 use Rattle.sound.specs.Fault.{Layout, Fault, size, otherEdition, section, row, edition, InLine}
-use Rattle.lines.specs.Each.{foundEach}
 use Rattle.quick.specs.Fine.{allFine}
 use Rattle.quick.specs.Stated.{AllFine}
 use Rattle.quick.proofs.Theorems.{fine-stated}

@@ -8,10 +8,11 @@ use lib.ListN.{length}
 use Rattle.table.specs.Table.{word, countOf}
 use Rattle.table.specs.declared.Section.{Section}
 use Rattle.model.specs.Sections.{chainHeader, policyHeader, certs}
+use Rattle.sections.specs.Placed.{misplaced, chainSections, policySections}
 use Rattle.row_tests.specs.Wrong.{wrong}
 use Rattle.search.specs.declared.Line.{Line}
-use Rattle.search.specs.Rows.{rowsOf, rowAt, misplaced}
-use Rattle.lines.specs.Tables.{chainLines, chainSections, policyLines, policySections}
+use Rattle.search.specs.Rows.{rowsOf, rowAt}
+use Rattle.lines.specs.Tables.{chainLines, policyLines}
 
 -- the limits
 abbrev pub mostWords : ℕ

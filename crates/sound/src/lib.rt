@@ -6,10 +6,10 @@ ghost use Rattle.table.specs.Table.{word as wordOf, countOf};
 ghost use Rattle.model.specs.Sections.{certs};
 ghost use Rattle.sound.specs.Answer.{ChainVerdict, PolicyVerdict};
 ghost use Rattle.sound.specs.Fault.{tooLarge, mostCerts, edition};
-use lines::CHAIN_HEADER;
-use lines::POLICY_HEADER;
 use model::chain::CERTS;
-use search::Found;
+use sections::CHAIN_HEADER;
+use sections::Found;
+use sections::POLICY_HEADER;
 use table::CertPos;
 use table::word;
 
@@ -83,7 +83,7 @@ pub fn check_chain(words: &[u64], bytes: &[u8]) -> Checked
     if quick::chain_fine(words, bytes) {
         return Checked::Sound;
     }
-    let s = lines::chain_misplaced(words);
+    let s = sections::chain_misplaced(words);
     if let Found::At(n, p) = s {
         return refused(n, Bundle::Chain, p);
     }
@@ -104,7 +104,7 @@ pub fn check_policy(words: &[u64], bytes: &[u8]) -> Checked
     if has_other_edition(words) {
         return refused(3, Bundle::Policy, 0);
     }
-    let s = lines::policy_misplaced(words);
+    let s = sections::policy_misplaced(words);
     if let Found::At(n, p) = s {
         return refused(n, Bundle::Policy, p);
     }

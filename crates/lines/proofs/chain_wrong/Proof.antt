@@ -1,7 +1,7 @@
 use mathlib.Core.List.{_++_}
+use Rattle.sections.proofs.Each.{each-then}
 use Rattle.search.specs.Found.{foundIn}
 use Rattle.lines.specs.Tables.{tablesOut, certStringsOut, certRangesOut, codesOver, marksOver, namesHigh}
-use Rattle.lines.proofs.Each.{each-then}
 use borrow.Author.Needs.{needs}
 use Rattle.lines.proofs.chain_wrong.Statement.{statement}
 use Rattle.lines.proofs.chain_wrong.Tie as tie

@@ -1,6 +1,6 @@
+use Rattle.sections.proofs.Each.{each-then}
 use Rattle.search.specs.Found.{foundIn}
 use Rattle.lines.specs.Tables.{listsOut, entriesHigh}
-use Rattle.lines.proofs.Each.{each-then}
 use borrow.Author.Needs.{needs}
 use Rattle.lines.proofs.policy_wrong.Statement.{statement}
 use Rattle.lines.proofs.policy_wrong.Tie as tie

@@ -1,9 +1,8 @@
 -- One thing after the other is looked at. Assumes nothing.
 use mathlib.Core.Path.{_≡_, refl, sym, ap, _∙_}
 use mathlib.Core.List.{List, [], _∷_, _++_}
-use Rattle.search.specs.declared.Found.{Found}
-use Rattle.search.specs.Found.{earlierOf}
-use Rattle.lines.specs.Each.{foundEach}
+use Rattle.sections.specs.declared.Found.{Found}
+use Rattle.sections.specs.Found.{earlierOf, foundEach}
 
 module _ {A : Type 0} (found : A → Found) where
   pub each-more : (x : A) (xs : List A) (f : Found) {g r : Found} → g ≡ earlierOf f (found x) → r ≡ foundEach found g xs → r ≡ foundEach found f (x ∷ xs)

@@ -1,7 +1,7 @@
-use Rattle.search.proofs.Steps.{section-bad, section-good}
+use Rattle.sections.proofs.Steps.{section-bad, section-good}
 use borrow.Author.Needs.{needs}
-use Rattle.search.proofs.with_section.Statement.{statement}
-use Rattle.search.proofs.with_section.Tie as tie
+use Rattle.sections.proofs.with_section.Statement.{statement}
+use Rattle.sections.proofs.with_section.Tie as tie
 
 is-misplaced-requires : tie.Need-is-misplaced-requires
 is-misplaced-requires c κs = search needs

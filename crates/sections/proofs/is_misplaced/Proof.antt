@@ -1,7 +1,7 @@
-use Rattle.search.proofs.Steps.{in-header, past-words, no-words, by-division}
+use Rattle.sections.proofs.Steps.{in-header, past-words, no-words, by-division}
 use borrow.Author.Needs.{needs}
-use Rattle.search.proofs.is_misplaced.Statement.{statement}
-use Rattle.search.proofs.is_misplaced.Tie as tie
+use Rattle.sections.proofs.is_misplaced.Statement.{statement}
+use Rattle.sections.proofs.is_misplaced.Tie as tie
 
 offset-requires : tie.Need-offset-requires
 offset-requires c κs = search needs

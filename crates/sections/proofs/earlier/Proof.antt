@@ -1,7 +1,7 @@
-use Rattle.search.proofs.Steps.{earlier-clear, earlier-yes, earlier-no}
+use Rattle.sections.proofs.Steps.{earlier-clear, earlier-yes, earlier-no}
 use borrow.Author.Needs.{needs}
-use Rattle.search.proofs.earlier.Statement.{statement}
-use Rattle.search.proofs.earlier.Tie as tie
+use Rattle.sections.proofs.earlier.Statement.{statement}
+use Rattle.sections.proofs.earlier.Tie as tie
 
 enum-told : tie.Need-enum-told
 enum-told c = search needs

@@ -1,9 +1,9 @@
 use Rattle.model.specs.Sections.{policyHeader}
-use Rattle.search.specs.Found.{foundSection}
-use Rattle.lines.proofs.Each.{each-more, each-done}
+use Rattle.sections.specs.Placed.{foundSection}
+use Rattle.sections.proofs.Each.{each-more, each-done}
 use borrow.Author.Needs.{needs}
-use Rattle.lines.proofs.policy_misplaced.Statement.{statement}
-use Rattle.lines.proofs.policy_misplaced.Tie as tie
+use Rattle.sections.proofs.policy_misplaced.Statement.{statement}
+use Rattle.sections.proofs.policy_misplaced.Tie as tie
 
 with-section-requires : tie.Need-with-section-requires
 with-section-requires c κs = search needs
