@@ -1,4 +1,4 @@
-use mathlib.Core.Path.{_∙_}
+use mathlib.Core.Path.{sym, _∙_}
 use borrow.Author.Needs.{needs}
 use Rattle.model.specs.Decode.{optionalString}
 use Rattle.model.proofs.Optional.{absent-passes, present-passes}
@@ -11,7 +11,7 @@ cert-word-requires c κs = search needs
 
 returns : tie.Need-returns
 unfolding sameSerial optionalString
-returns c = absent-passes _ _ _ (cc)
+returns c = absent-passes _ _ _ (sym (c .before .cert-word .ensures) ∙ c .if1 .taken)
 
 cert-word-requires-2 : tie.Need-cert-word-requires-2
 cert-word-requires-2 c κs = search needs
@@ -24,7 +24,7 @@ same-strings-requires c κs = search needs
 
 returns-2 : tie.Need-returns-2
 unfolding sameSerial optionalString
-returns-2 c = present-passes _ _ _ (λ z. (c .before .before .if1 .left) ((c .before .before .before .cert-word .ensures) ∙ z)) (cc)
+returns-2 c = present-passes _ _ _ (λ z. (c .before .before .if1 .left) ((c .before .before .before .cert-word .ensures) ∙ z)) (rw (← c .before .before .before .cert-word .ensures, ← c .before .cert-word2 .ensures) (c .same-strings .ensures))
 
 pub same-serial-spec : {M : Type 1} → statement M
 same-serial-spec =

@@ -12,7 +12,7 @@ same-requires : tie.Need-same-requires
 same-requires c κs = search needs
 
 returns : tie.Need-returns
-returns c = cc
+returns c = rw (← c .before .before .string .ensures, ← c .before .string2 .ensures) (c .same .ensures)
 
 pub same-strings-spec : {M : Type 1} → statement M
 same-strings-spec = tie.close (tie.spec string-requires string-requires-2 same-requires returns)

@@ -12,7 +12,7 @@ same-dn-requires : tie.Need-same-dn-requires
 same-dn-requires c κs = search needs
 
 returns : tie.Need-returns
-returns c = cc
+returns c = rw (← c .before .before .cert-range .ensures, ← c .before .cert-range2 .ensures) (c .same-dn .ensures)
 
 pub same-names-spec : {M : Type 1} → statement M
 same-names-spec =

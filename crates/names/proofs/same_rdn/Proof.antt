@@ -12,7 +12,7 @@ same-attrs-requires : tie.Need-same-attrs-requires
 same-attrs-requires c κs = search needs
 
 returns : tie.Need-returns
-returns c = cc
+returns c = rw (← c .before .before .rdn .ensures, ← c .before .rdn2 .ensures) (c .same-attrs .ensures)
 
 pub same-rdn-spec : {M : Type 1} → statement M
 same-rdn-spec = tie.close (tie.spec rdn-requires rdn-requires-2 same-attrs-requires returns)

@@ -1,3 +1,4 @@
+use mathlib.Core.Path.{refl}
 use borrow.Author.Needs.{needs}
 use Rattle.purpose.specs.Purpose.{checkPurpose}
 use Rattle.purpose.proofs.check_purpose.Statement.{statement}
@@ -11,7 +12,7 @@ key-usage-serves-requires c κs = search needs
 
 returns : tie.Need-returns
 unfolding checkPurpose
-returns c = cc
+returns c = rw (c .before .extended-key-usage-valid .ensures, c .key-usage-serves .ensures) refl
 
 pub check-purpose-spec : {M : Type 1} → statement M
 check-purpose-spec =

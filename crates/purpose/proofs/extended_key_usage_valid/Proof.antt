@@ -1,4 +1,4 @@
-use mathlib.Core.Path.{_∙_}
+use mathlib.Core.Path.{sym, _∙_}
 use borrow.Author.Needs.{needs}
 use Rattle.model.proofs.Optional.{absent-passes, present-passes}
 use Rattle.purpose.specs.Purpose.{extendedKeyUsageValid}
@@ -10,7 +10,7 @@ cert-word-requires c κs = search needs
 
 returns : tie.Need-returns
 unfolding extendedKeyUsageValid
-returns c = absent-passes _ _ _ (cc)
+returns c = absent-passes _ _ _ (sym (c .before .cert-word .ensures) ∙ c .if1 .taken)
 
 cert-range-requires : tie.Need-cert-range-requires
 cert-range-requires c κs = search needs
@@ -20,7 +20,7 @@ any-serves-requires c κs = search needs
 
 returns-2 : tie.Need-returns-2
 unfolding extendedKeyUsageValid
-returns-2 c = present-passes _ _ _ (λ z. (c .before .before .if1 .left) ((c .before .before .before .cert-word .ensures) ∙ z)) (cc)
+returns-2 c = present-passes _ _ _ (λ z. (c .before .before .if1 .left) ((c .before .before .before .cert-word .ensures) ∙ z)) (rw (← c .before .cert-range .ensures) (c .any-serves .ensures))
 
 pub extended-key-usage-valid-spec : {M : Type 1} → statement M
 extended-key-usage-valid-spec =

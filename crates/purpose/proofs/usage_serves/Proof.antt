@@ -9,7 +9,7 @@ serves-requires : tie.Need-serves-requires
 serves-requires c κs = search needs
 
 returns : tie.Need-returns
-returns c = cc
+returns c = rw (← c .before .usage .ensures) (c .serves .ensures)
 
 pub usage-serves-spec : {M : Type 1} → statement M
 usage-serves-spec = tie.close (tie.spec usage-requires serves-requires returns)

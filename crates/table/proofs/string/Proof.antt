@@ -14,7 +14,7 @@ cut-requires c κs = search needs
 
 returns : tie.Need-returns
 unfolding stringOf
-returns c = cc
+returns c = rw (← c .before .before .field .ensures, ← c .before .field2 .ensures) (c .cut .ensures)
 
 pub string-spec : {M : Type 1} → statement M
 string-spec = tie.close (tie.spec field-requires field-requires-2 cut-requires returns)

@@ -8,7 +8,7 @@ field-requires c κs = search needs
 
 returns : tie.Need-returns
 unfolding headOf
-returns c = cc
+returns c = c .field .ensures
 
 pub head-spec : {M : Type 1} → statement M
 head-spec = tie.close (tie.spec field-requires returns)

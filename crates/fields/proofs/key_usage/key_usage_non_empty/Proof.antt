@@ -1,4 +1,4 @@
-use mathlib.Core.Path.{_∙_}
+use mathlib.Core.Path.{sym, _∙_}
 use borrow.Author.Needs.{needs}
 use Rattle.model.proofs.Optional.{absent-passes, present-passes}
 use Rattle.fields.specs.KeyUsage.{hasBit, keyUsageNonEmpty}
@@ -11,7 +11,7 @@ cert-word-requires c κs = search needs
 
 returns : tie.Need-returns
 unfolding keyUsageNonEmpty
-returns c = absent-passes _ _ _ (cc)
+returns c = absent-passes _ _ _ (sym (c .before .cert-word .ensures) ∙ c .if1 .taken)
 
 cert-word-requires-2 : tie.Need-cert-word-requires-2
 cert-word-requires-2 c κs = search needs

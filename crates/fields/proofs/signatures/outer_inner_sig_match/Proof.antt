@@ -20,7 +20,7 @@ same-requires c κs = search needs
 
 returns : tie.Need-returns
 unfolding outerInnerSigMatch
-returns c = cc
+returns c = rw (← c .before .before .before .before .cert-word .ensures, ← c .before .before .before .string .ensures, ← c .before .before .cert-word2 .ensures, ← c .before .string2 .ensures) (c .same .ensures)
 
 pub outer-inner-sig-match-spec : {M : Type 1} → statement M
 outer-inner-sig-match-spec =

@@ -1,3 +1,4 @@
+use mathlib.Core.Path.{refl}
 use borrow.Author.Needs.{needs}
 use Rattle.fields.specs.Validity.{checkCertTime}
 use Rattle.fields.proofs.validity.check_cert_time.Statement.{statement}
@@ -14,7 +15,7 @@ cert-word-requires-2 c κs = search needs
 
 returns : tie.Need-returns
 unfolding checkCertTime
-returns c = cc
+returns c = rw (c .before .before .word .ensures, c .before .cert-word .ensures, c .cert-word2 .ensures) refl
 
 pub check-cert-time-spec : {M : Type 1} → statement M
 check-cert-time-spec =

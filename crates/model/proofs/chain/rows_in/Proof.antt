@@ -11,7 +11,7 @@ clip-requires c κs = search needs
 
 returns : tie.Need-returns
 unfolding rowsIn
-returns c = cc
+returns c = rw (← c .before .count .ensures) (c .clip .ensures)
 
 pub rows-in-spec : {M : Type 1} → statement M
 rows-in-spec = tie.close (tie.spec count-requires clip-requires returns)

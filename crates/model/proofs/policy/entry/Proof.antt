@@ -11,7 +11,7 @@ string-requires c κs = search needs
 
 returns : tie.Need-returns
 unfolding entryAt
-returns c = cc
+returns c = rw (← c .before .field .ensures) (c .string .ensures)
 
 pub entry-spec : {M : Type 1} → statement M
 entry-spec = tie.close (tie.spec field-requires string-requires returns)

@@ -1,4 +1,4 @@
-use mathlib.Core.Path.{_∙_}
+use mathlib.Core.Path.{sym, _∙_}
 use borrow.Author.Needs.{needs}
 use Rattle.model.proofs.Optional.{absent-passes, present-passes}
 use Rattle.parts.specs.PathLength.{pathLengthHolds}
@@ -11,14 +11,14 @@ cert-word-requires c κs = search needs
 
 returns : tie.Need-returns
 unfolding pathLengthHolds
-returns c = absent-passes _ _ _ (cc)
+returns c = absent-passes _ _ _ (sym (c .before .cert-word .ensures) ∙ c .if1 .taken)
 
 cert-word-requires-2 : tie.Need-cert-word-requires-2
 cert-word-requires-2 c κs = search needs
 
 returns-2 : tie.Need-returns-2
 unfolding pathLengthHolds
-returns-2 c = present-passes _ _ _ (λ z. (c .before .before .if1 .left) ((c .before .before .before .cert-word .ensures) ∙ z)) (absent-passes _ _ _ (cc))
+returns-2 c = present-passes _ _ _ (λ z. (c .before .before .if1 .left) ((c .before .before .before .cert-word .ensures) ∙ z)) (absent-passes _ _ _ (sym (c .before .cert-word2 .ensures) ∙ c .if2 .taken))
 
 cert-word-requires-3 : tie.Need-cert-word-requires-3
 cert-word-requires-3 c κs = search needs
