@@ -9,7 +9,7 @@ same-requires : tie.Need-same-requires
 same-requires c κs = search needs
 
 returns : tie.Need-returns
-returns c = cc
+returns c = rw (← c .before .entry .ensures) (c .same .ensures)
 
 pub entry-is-spec : {M : Type 1} → statement M
 entry-is-spec = tie.close (tie.spec entry-requires same-requires returns)

@@ -11,7 +11,7 @@ any-is-requires c κs = search needs
 
 returns : tie.Need-returns
 unfolding listAt
-returns c = cc
+returns c = rw (← c .before .list .ensures) (c .any-is .ensures)
 
 pub in-list-spec : {M : Type 1} → statement M
 in-list-spec = tie.close (tie.spec list-requires any-is-requires returns)

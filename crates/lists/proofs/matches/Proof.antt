@@ -11,7 +11,7 @@ any-matches-requires c κs = search needs
 
 returns : tie.Need-returns
 unfolding listAt
-returns c = cc
+returns c = rw (← c .before .list .ensures) (c .any-matches .ensures)
 
 pub matches-spec : {M : Type 1} → statement M
 matches-spec = tie.close (tie.spec list-requires any-matches-requires returns)

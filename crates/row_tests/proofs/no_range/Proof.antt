@@ -25,7 +25,7 @@ ends-past-requires c κs = search needs
 
 returns-2 : tie.Need-returns-2
 unfolding noRange
-returns-2 c = cc
+returns-2 c = rw (← c .before .before .before .word .ensures, ← c .before .before .word2 .ensures, ← c .before .count .ensures) (c .ends-past .ensures)
 
 pub no-range-spec : {M : Type 1} → statement M
 no-range-spec =

@@ -22,7 +22,7 @@ ends-past-requires c κs = search needs
 
 returns-2 : tie.Need-returns-2
 unfolding stringOut
-returns-2 c = cc
+returns-2 c = rw (← c .before .before .word .ensures, ← c .before .word2 .ensures) (c .ends-past .ensures)
 
 pub string-out-spec : {M : Type 1} → statement M
 string-out-spec =

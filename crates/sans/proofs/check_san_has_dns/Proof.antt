@@ -20,7 +20,7 @@ has-kind-requires c κs = search needs
 
 returns-2 : tie.Need-returns-2
 unfolding checkSanHasDns
-returns-2 c = present-and _ _ _ (λ e. c .before .before .if1 .left (c .before .before .before .cert-word .ensures ∙ e)) cc
+returns-2 c = present-and _ _ _ (λ e. c .before .before .if1 .left (c .before .before .before .cert-word .ensures ∙ e)) (rw (← c .before .cert-range .ensures) (c .has-kind .ensures))
 
 pub check-san-has-dns-spec : {M : Type 1} → statement M
 check-san-has-dns-spec =

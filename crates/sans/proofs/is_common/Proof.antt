@@ -14,7 +14,7 @@ same-requires c κs = search needs
 
 returns : tie.Need-returns
 unfolding isCommon
-returns c = cc
+returns c = rw (← c .before .before .oid .ensures) (c .same .ensures)
 
 pub is-common-spec : {M : Type 1} → statement M
 is-common-spec = tie.close (tie.spec oid-requires slice-aggregate-same same-requires returns)
