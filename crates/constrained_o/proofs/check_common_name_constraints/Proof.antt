@@ -11,7 +11,7 @@ commons-pass-requires c κs = search needs
 
 returns : tie.Need-returns
 unfolding checkCommonNameConstraints
-returns c = cc
+returns c = rw (← c .before .cert-range .ensures) (c .commons-pass .ensures)
 
 pub check-common-name-constraints-spec : {M : Type 1} → statement M
 check-common-name-constraints-spec =

@@ -18,7 +18,7 @@ check-dns-name-constraints-requires c κs = search needs
 
 returns : tie.Need-returns
 unfolding ifCommon askedName ncMatch
-returns c = or-then (ap not (c .before .before .before .is-common .ensures)) (ap not (c .before .before .if1 .taken)) cc
+returns c = or-then (ap not (c .before .before .before .is-common .ensures)) (ap not (c .before .before .if1 .taken)) (rw (← c .before .value .ensures) (c .check-dns-name-constraints .ensures))
 
 returns-2 : tie.Need-returns-2
 unfolding ifCommon

@@ -9,7 +9,7 @@ attributes-pass-requires : tie.Need-attributes-pass-requires
 attributes-pass-requires c κs = search needs
 
 returns : tie.Need-returns
-returns c = cc
+returns c = rw (← c .before .rdn .ensures) (c .attributes-pass .ensures)
 
 pub rdn-passes-spec : {M : Type 1} → statement M
 rdn-passes-spec = tie.close (tie.spec rdn-requires attributes-pass-requires returns)

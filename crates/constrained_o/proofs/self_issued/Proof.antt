@@ -14,7 +14,7 @@ same-dn-requires c κs = search needs
 
 returns : tie.Need-returns
 unfolding selfIssued
-returns c = cc
+returns c = rw (← c .before .before .cert-range .ensures, ← c .before .cert-range2 .ensures) (c .same-dn .ensures)
 
 pub self-issued-spec : {M : Type 1} → statement M
 self-issued-spec =

@@ -15,7 +15,7 @@ is-subtree-of-requires c κs = search needs
 
 returns : tie.Need-returns
 unfolding overDirectory
-returns c = directory-then _ _ _ _ (c .before .before .before .is-kind .ensures) (c .before .before .if1 .taken) cc
+returns c = directory-then _ _ _ _ (c .before .before .before .is-kind .ensures) (c .before .before .if1 .taken) (rw (← c .before .name-range .ensures) (c .is-subtree-of .ensures))
 
 returns-2 : tie.Need-returns-2
 unfolding overDirectory

@@ -15,7 +15,7 @@ ip-addr-in-range-requires c κs = search needs
 
 returns : tie.Need-returns
 unfolding overIp
-returns c = ip-then _ _ _ _ (c .before .before .before .is-kind .ensures) (c .before .before .if1 .taken) cc
+returns c = ip-then _ _ _ _ (c .before .before .before .is-kind .ensures) (c .before .before .if1 .taken) (rw (← c .before .name-text .ensures) (c .ip-addr-in-range .ensures))
 
 returns-2 : tie.Need-returns-2
 unfolding overIp

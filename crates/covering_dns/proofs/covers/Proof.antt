@@ -15,7 +15,7 @@ dns-covers-requires c κs = search needs
 
 returns : tie.Need-returns
 unfolding overDns
-returns c = dns-then _ _ _ _ (c .before .before .before .is-kind .ensures) (c .before .before .if1 .taken) cc
+returns c = dns-then _ _ _ _ (c .before .before .before .is-kind .ensures) (c .before .before .if1 .taken) (rw (← c .before .name-text .ensures) (c .dns-covers .ensures))
 
 returns-2 : tie.Need-returns-2
 unfolding overDns

@@ -13,7 +13,7 @@ dns-covers-requires : tie.Need-dns-covers-requires
 dns-covers-requires c κs = search needs
 
 returns : tie.Need-returns
-returns c = kind-dns _ _ _ _ _ (c .before .before .before .kind-in .ensures) (c .before .before .if1 .taken) cc
+returns c = kind-dns _ _ _ _ _ (c .before .before .before .kind-in .ensures) (c .before .before .if1 .taken) (rw (← c .before .text-in .ensures) (c .dns-covers .ensures))
 
 returns-2 : tie.Need-returns-2
 returns-2 c = kind-no-dns _ _ _ _ _ (c .before .kind-in .ensures) (c .if1 .left)

@@ -13,7 +13,7 @@ valid-name-constraint-requires : tie.Need-valid-name-constraint-requires
 valid-name-constraint-requires c κs = search needs
 
 returns : tie.Need-returns
-returns c = valid-dns _ _ _ (c .before .before .before .is-kind .ensures) (c .before .before .if1 .taken) cc
+returns c = valid-dns _ _ _ (c .before .before .before .is-kind .ensures) (c .before .before .if1 .taken) (rw (← c .before .name-text .ensures) (c .valid-name-constraint .ensures))
 
 returns-2 : tie.Need-returns-2
 returns-2 c = valid-other _ _ _ (c .before .is-kind .ensures) (c .if1 .left)
