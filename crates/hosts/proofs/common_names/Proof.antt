@@ -15,7 +15,7 @@ names-host-requires c κs = search needs
 
 returns : tie.Need-returns
 unfolding commonAnd
-returns c = and-then (c .before .before .before .is-common .ensures) (c .before .before .if1 .taken) cc
+returns c = and-then (c .before .before .before .is-common .ensures) (c .before .before .if1 .taken) (rw (← c .before .value .ensures) (c .names-host .ensures))
 
 returns-2 : tie.Need-returns-2
 unfolding commonAnd

@@ -13,7 +13,7 @@ names-host-requires : tie.Need-names-host-requires
 names-host-requires c κs = search needs
 
 returns : tie.Need-returns
-returns c = dns-then _ _ _ _ (c .before .before .before .is-kind .ensures) (c .before .before .if1 .taken) cc
+returns c = dns-then _ _ _ _ (c .before .before .before .is-kind .ensures) (c .before .before .if1 .taken) (rw (← c .before .name-text .ensures) (c .names-host .ensures))
 
 returns-2 : tie.Need-returns-2
 returns-2 c = dns-other _ _ _ _ (c .before .is-kind .ensures) (c .if1 .left)

@@ -9,7 +9,7 @@ any-common-names-requires : tie.Need-any-common-names-requires
 any-common-names-requires c κs = search needs
 
 returns : tie.Need-returns
-returns c = cc
+returns c = rw (← c .before .rdn .ensures) (c .any-common-names .ensures)
 
 pub rdn-names-spec : {M : Type 1} → statement M
 rdn-names-spec = tie.close (tie.spec rdn-requires any-common-names-requires returns)

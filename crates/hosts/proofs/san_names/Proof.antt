@@ -17,7 +17,7 @@ any-dns-names-requires : tie.Need-any-dns-names-requires
 any-dns-names-requires c κs = search needs
 
 returns-2 : tie.Need-returns-2
-returns-2 c = present-and _ _ _ (λ e. c .before .before .if1 .left (c .before .before .before .cert-word .ensures ∙ e)) cc
+returns-2 c = present-and _ _ _ (λ e. c .before .before .if1 .left (c .before .before .before .cert-word .ensures ∙ e)) (rw (← c .before .cert-range .ensures) (c .any-dns-names .ensures))
 
 pub san-names-spec : {M : Type 1} → statement M
 san-names-spec =

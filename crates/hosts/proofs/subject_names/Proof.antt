@@ -9,7 +9,7 @@ any-rdn-names-requires : tie.Need-any-rdn-names-requires
 any-rdn-names-requires c κs = search needs
 
 returns : tie.Need-returns
-returns c = cc
+returns c = rw (← c .before .cert-range .ensures) (c .any-rdn-names .ensures)
 
 pub subject-names-spec : {M : Type 1} → statement M
 subject-names-spec = tie.close (tie.spec cert-range-requires any-rdn-names-requires returns)

@@ -9,7 +9,7 @@ string-requires : tie.Need-string-requires
 string-requires c κs = search needs
 
 returns : tie.Need-returns
-returns c = cc
+returns c = rw (← c .before .cert-word .ensures) (c .string .ensures)
 
 pub fingerprint-spec : {M : Type 1} → statement M
 fingerprint-spec = tie.close (tie.spec cert-word-requires string-requires returns)

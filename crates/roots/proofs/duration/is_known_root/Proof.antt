@@ -11,7 +11,7 @@ in-list-requires c κs = search needs
 
 returns : tie.Need-returns
 unfolding isKnownRoot
-returns c = cc
+returns c = rw (← c .before .fingerprint .ensures) (c .in-list .ensures)
 
 pub is-known-root-spec : {M : Type 1} → statement M
 is-known-root-spec = tie.close (tie.spec fingerprint-requires in-list-requires returns)

@@ -14,7 +14,7 @@ span-valid-requires c κs = search needs
 
 returns : tie.Need-returns
 unfolding leafDurationValid
-returns c = cc
+returns c = rw (← c .before .before .cert-word .ensures, ← c .before .cert-word2 .ensures) (c .span-valid .ensures)
 
 pub leaf-duration-valid-spec : {M : Type 1} → statement M
 leaf-duration-valid-spec =

@@ -24,7 +24,7 @@ serves-host-requires c κs = search needs
 
 returns-2 : tie.Need-returns-2
 unfolding validRootFingerprint optionalString
-returns-2 c = present-passes _ _ _ (λ e. c .before .before .if1 .left (c .before .before .before .word .ensures ∙ e)) cc
+returns-2 c = present-passes _ _ _ (λ e. c .before .before .if1 .left (c .before .before .before .word .ensures ∙ e)) (rw (← c .before .before .before .word .ensures, ← c .before .string .ensures) (c .serves-host .ensures))
 
 pub valid-root-fingerprint-spec : {M : Type 1} → statement M
 valid-root-fingerprint-spec =

@@ -11,7 +11,7 @@ in-list-requires c κs = search needs
 
 returns : tie.Need-returns
 unfolding isSymantecRoot
-returns c = cc
+returns c = rw (← c .before .fingerprint .ensures) (c .in-list .ensures)
 
 pub is-symantec-root-spec : {M : Type 1} → statement M
 is-symantec-root-spec = tie.close (tie.spec fingerprint-requires in-list-requires returns)
