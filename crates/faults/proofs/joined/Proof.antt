@@ -1,4 +1,5 @@
 -- What two writers hand back together. Assumes nothing.
+use mathlib.Core.Path.{refl}
 use borrow.Author.Needs.{needs}
 use Rattle.faults.proofs.joined.Statement.{statement}
 use Rattle.faults.proofs.joined.Tie as tie
@@ -13,7 +14,7 @@ earlier-requires : tie.Need-earlier-requires
 earlier-requires c κs = search needs
 
 returns : tie.Need-returns
-returns c = cc
+returns c = rw (← c .before .before .sum .ensures, ← c .before .sum2 .ensures, ← c .earlier .ensures) refl
 
 pub joined-spec : {M : Type 1} → statement M
 joined-spec = tie.close (tie.spec sum-requires sum-requires-2 earlier-requires returns)

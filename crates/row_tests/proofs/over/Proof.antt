@@ -1,3 +1,5 @@
+use mathlib.Core.Path.{ap}
+use lib.Dec.{ltb}
 use Rattle.row_tests.specs.Wrong.{over}
 use borrow.Author.Needs.{needs}
 use Rattle.row_tests.proofs.over.Statement.{statement}
@@ -8,7 +10,7 @@ word-requires c κs = search needs
 
 returns : tie.Need-returns
 unfolding over
-returns c = cc
+returns c = ap (ltb _) (c .word .ensures)
 
 pub over-spec : {M : Type 1} → statement M
 over-spec = tie.close (tie.spec word-requires returns)
