@@ -10,8 +10,9 @@ import obeying
 import reports
 import row_loops
 import searches
+import stated
 
-MAKERS = [bundles, byte_table, loops, obeying, reports, row_loops, searches]
+MAKERS = [bundles, byte_table, loops, obeying, reports, row_loops, searches, stated]
 TOP = pathlib.Path(__file__).resolve().parent.parent
 
 

@@ -10,8 +10,10 @@ use Rattle.model.specs.Model.{Chain, Lists}
 use Rattle.table.specs.Table.{countOf}
 use Rattle.model.specs.Sections.{certs}
 use Rattle.model.specs.Decode.{chainOf, listsOf}
-use Rattle.sound.specs.Answer.{First as FirstFault, ChainVerdict}
-use Rattle.sound.specs.Fault.{Fault, chainLayout, policyLayout, mostCerts}
+use Rattle.sound.specs.Answer.{First as FirstFault, SoundChain, SoundPolicy, ChainVerdict}
+use Rattle.sound.specs.Limits.{mostCerts}
+use Rattle.sound.specs.ChainFault.{ChainFault}
+use Rattle.sound.specs.PolicyFault.{PolicyFault}
 use Rattle.sound.specs.declared.Bundle.{Bundle}
 use Rattle.sound.specs.declared.Bundle.the-variants.{Chain as ChainBundle, Policy as PolicyBundle}
 use Rattle.sound.specs.declared.Place.{Place}
@@ -29,7 +31,7 @@ use Rattle.policies.proofs.Laws.{no-more, few-singles, one-of-pairs}
 use Rattle.judge.proofs.Laws.{few-certs, chain-once, chain-sound, chain-refused, policy-refused, both-once, both-sound}
 use Rattle.policies.specs.Tables.{placesOf, rules, short}
 use Rattle.rules.specs.Rules.{broken, noLists}
-use Rattle.judge.specs.Judged.{NoFault, placeOf, answerBy, answerOf, Judging, Outcome, Judged, OpenSslJudged, BothVerdict, ChromeJudged}
+use Rattle.judge.specs.Judged.{placeOf, answerBy, answerOf, Judging, Outcome, Judged, OpenSslJudged, BothVerdict, ChromeJudged}
 use Rattle.judge.specs.Obeys.{ObeysOpenSsl, ObeysChrome}
 use Rattle.policies.specs.declared.Policy.{Policy}
 use Rattle.policies.specs.declared.Policy.the-variants.{OpenSsl, Chrome}
@@ -122,11 +124,11 @@ module _ (Allowed : Checked → Type 0) (once : (r s : Checked) → Allowed r �
 -- ---- OpenSSL's judge
 module _ (w b : List ℕ) {old new : List ℕ} {a : Answer} (j : OpenSslJudged w b old new a) where
   -- A bundle with a fault is refused by the first: the lowest number, then the lowest word. Every word of the report is as it was.
-  pub openssl-refuses : (n q : ℕ) → FirstFault (Fault (chainLayout w b) w b) n q → (a ≡ Refused n ChainBundle (Word q)) × (new ≡ old)
+  pub openssl-refuses : (n q : ℕ) → FirstFault (ChainFault w b) n q → (a ≡ Refused n ChainBundle (Word q)) × (new ≡ old)
   openssl-refuses n q f = refused (ChainVerdict w b) (chain-once w b) OpenSsl (chainOf w b) noLists j n ChainBundle (Word q) (chain-refused w b f)
 
   -- ---- a sound bundle: one without a fault
-  module _ (sound : NoFault (chainLayout w b) w b) where
+  module _ (sound : SoundChain w b) where
     -- A chain is accepted exactly if it has at least two certificates and obeys each rule wherever it is asked.
     pub accepts-openssl : (a ≡ Accepted Nothing) ↔ ObeysOpenSsl (chainOf w b)
     accepts-openssl =
@@ -144,15 +146,15 @@ openssl-once w b j k = one-judgement (ChainVerdict w b) (chain-once w b) OpenSsl
 -- ---- Chrome's judge
 module _ (w b pw pb : List ℕ) {old new : List ℕ} {a : Answer} (j : ChromeJudged w b pw pb old new a) where
   -- A chain's bundle with a fault is refused by the first, whatever the policy's bundle is.
-  pub chrome-refuses-chain : (n q : ℕ) → FirstFault (Fault (chainLayout w b) w b) n q → (a ≡ Refused n ChainBundle (Word q)) × (new ≡ old)
+  pub chrome-refuses-chain : (n q : ℕ) → FirstFault (ChainFault w b) n q → (a ≡ Refused n ChainBundle (Word q)) × (new ≡ old)
   chrome-refuses-chain n q f = refused (BothVerdict w b pw pb) (both-once w b pw pb) Chrome (chainOf w b) (listsOf pw pb) j n ChainBundle (Word q) (inl (chain-refused w b f))
 
   -- Under a sound chain's bundle a policy's bundle with a fault is refused by the first.
-  pub chrome-refuses-policy : NoFault (chainLayout w b) w b → (n q : ℕ) → FirstFault (Fault (policyLayout pw pb) pw pb) n q → (a ≡ Refused n PolicyBundle (Word q)) × (new ≡ old)
+  pub chrome-refuses-policy : SoundChain w b → (n q : ℕ) → FirstFault (PolicyFault pw pb) n q → (a ≡ Refused n PolicyBundle (Word q)) × (new ≡ old)
   chrome-refuses-policy sound n q f = refused (BothVerdict w b pw pb) (both-once w b pw pb) Chrome (chainOf w b) (listsOf pw pb) j n PolicyBundle (Word q) (inr (chain-sound w b sound, policy-refused pw pb f))
 
   -- ---- two sound bundles
-  module _ (sound : NoFault (chainLayout w b) w b) (lists-sound : NoFault (policyLayout pw pb) pw pb) where
+  module _ (sound : SoundChain w b) (lists-sound : SoundPolicy pw pb) where
     -- A chain is accepted exactly if it has at least two certificates and obeys each rule wherever it is asked.
     pub accepts-chrome : (a ≡ Accepted Nothing) ↔ ObeysChrome (chainOf w b) (listsOf pw pb)
     accepts-chrome =

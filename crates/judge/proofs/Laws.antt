@@ -4,13 +4,14 @@ use native.Mathlib.Omega.{arith}
 use mathlib.Core.Path.{_≡_, refl, ap, subst}
 use mathlib.Core.Logic.{inl, inr}
 use mathlib.Core.List.{List}
-use borrow.Author.Tests.{ltb-false}
-use Rattle.laws.proofs.Tests.{or-right}
 use Rattle.table.specs.Table.{countOf}
 use Rattle.model.specs.Model.{Chain, Lists}
 use Rattle.model.specs.Sections.{chainHeader, certs}
-use Rattle.sound.specs.Fault.{Fault, chainLayout, policyLayout, tooLarge, mostCerts}
-use Rattle.sound.specs.Answer.{First, ChainVerdict, PolicyVerdict}
+use Rattle.sections.specs.Placed.{chainSections}
+use Rattle.sound.specs.Limits.{mostCerts}
+use Rattle.sound.specs.ChainFault.{ChainFault, shared, manyCerts}
+use Rattle.sound.specs.PolicyFault.{PolicyFault}
+use Rattle.sound.specs.Answer.{First, SoundChain, SoundPolicy, ChainVerdict, PolicyVerdict}
 use Rattle.sound.specs.declared.Bundle.{Bundle}
 use Rattle.sound.specs.declared.Bundle.the-variants.{Chain as ChainBundle, Policy as PolicyBundle}
 use Rattle.sound.specs.declared.Place.{Place}
@@ -18,12 +19,12 @@ use Rattle.sound.specs.declared.Place.the-variants.{Word}
 use Rattle.sound.proofs.Verdicts.{one-verdict}
 use Rattle.sound.specs.declared.Checked.{Checked}
 use Rattle.sound.specs.declared.Checked.the-variants.{Sound, Refused as RefusedBundle}
-use Rattle.decoded.proofs.Gives.{in-limits}
+use Rattle.decoded.proofs.Gives.{at-most, header-whole}
 use Rattle.faults.specs.Order.{Reported}
 use Rattle.faults.specs.declared.Tally.{Tally}
 use Rattle.policies.specs.Tables.{placesOf, short}
 use Rattle.rules.specs.Rules.{broken}
-use Rattle.judge.specs.Judged.{NoFault, answerOf, Judging, Outcome, BothVerdict}
+use Rattle.judge.specs.Judged.{answerOf, Judging, Outcome, BothVerdict}
 use Rattle.policies.specs.declared.Policy.{Policy}
 use Rattle.judge.specs.declared.Answer.{Answer}
 use Rattle.judge.specs.declared.Answer.the-variants.{Refused}
@@ -34,28 +35,28 @@ judging p c l {old = old} {new = new} {t = t} e r h = record { tally = t; report
 
 -- ---- the check of the bundles
 -- a sound bundle has few certificates
-pub few-certs : (w b : List ℕ) → NoFault (chainLayout w b) w b → countOf w certs ≤ mostCerts
-few-certs w b sound = ltb-false mostCerts (countOf w certs) (or-right (tooLarge chainHeader w b) _ (in-limits (chainLayout w b) w b sound))
+pub few-certs : (w b : List ℕ) → SoundChain w b → countOf w certs ≤ mostCerts
+few-certs w b sound = at-most mostCerts (countOf w certs) (λ h. sound 2 0 (manyCerts refl refl (header-whole chainHeader chainSections w b (λ n p f. sound n p (shared f))) h))
 
 module _ (w b : List ℕ) where
   -- one verdict fits the chain's bundle, and one the policy's
   pub chain-once : (r s : Checked) → ChainVerdict w b r → ChainVerdict w b s → r ≡ s
   unfolding ChainVerdict
-  chain-once = one-verdict (Fault (chainLayout w b) w b) ChainBundle
+  chain-once = one-verdict (ChainFault w b) ChainBundle
 
   pub policy-once : (r s : Checked) → PolicyVerdict w b r → PolicyVerdict w b s → r ≡ s
   unfolding PolicyVerdict
-  policy-once = one-verdict (Fault (policyLayout w b) w b) PolicyBundle
+  policy-once = one-verdict (PolicyFault w b) PolicyBundle
 
-  pub chain-sound : NoFault (chainLayout w b) w b → ChainVerdict w b Sound
+  pub chain-sound : SoundChain w b → ChainVerdict w b Sound
   unfolding ChainVerdict
   chain-sound sound = sound
 
-  pub chain-refused : {n q : ℕ} → First (Fault (chainLayout w b) w b) n q → ChainVerdict w b (RefusedBundle n ChainBundle (Word q))
+  pub chain-refused : {n q : ℕ} → First (ChainFault w b) n q → ChainVerdict w b (RefusedBundle n ChainBundle (Word q))
   unfolding ChainVerdict
   chain-refused f = (refl, refl, f)
 
-  pub policy-refused : {n q : ℕ} → First (Fault (policyLayout w b) w b) n q → PolicyVerdict w b (RefusedBundle n PolicyBundle (Word q))
+  pub policy-refused : {n q : ℕ} → First (PolicyFault w b) n q → PolicyVerdict w b (RefusedBundle n PolicyBundle (Word q))
   unfolding PolicyVerdict
   policy-refused f = (refl, refl, f)
 
@@ -95,7 +96,7 @@ module _ (w b pw pb : List ℕ) where
   pub chain-decides : {r : Checked} (n : ℕ) (j : Bundle) (q : Place) → r ≡ RefusedBundle n j q → ChainVerdict w b r → BothVerdict w b pw pb (RefusedBundle n j q)
   chain-decides n j q e v = inl (rw e at v)
 
-  pub both-sound : NoFault (chainLayout w b) w b → NoFault (policyLayout pw pb) pw pb → BothVerdict w b pw pb Sound
+  pub both-sound : SoundChain w b → SoundPolicy pw pb → BothVerdict w b pw pb Sound
   unfolding ChainVerdict PolicyVerdict
   both-sound c l = (c, l)
 

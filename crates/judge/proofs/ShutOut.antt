@@ -8,7 +8,8 @@ use lib.ListN.{length, getD}
 use Rattle.table.specs.declared.RuleNo.{RuleNo}
 use Rattle.model.specs.Model.{Chain, Lists}
 use Rattle.model.specs.Decode.{chainOf, listsOf}
-use Rattle.sound.specs.Fault.{chainLayout, policyLayout, mostCerts}
+use Rattle.sound.specs.Limits.{mostCerts}
+use Rattle.sound.specs.Answer.{SoundChain, SoundPolicy}
 use Rattle.sound.specs.declared.Bundle.{Bundle}
 use Rattle.sound.specs.declared.Place.{Place}
 use Rattle.sound.specs.declared.Checked.{Checked}
@@ -24,7 +25,7 @@ use Rattle.policies.specs.Tables.{placesOf, rules, short}
 use Rattle.rules.specs.Rules.{broken}
 use Rattle.policies.specs.declared.Policy.{Policy}
 use Rattle.policies.proofs.Laws.{no-more, no-rule-0}
-use Rattle.judge.specs.Judged.{NoFault, answerBy, Judged, OpenSslJudged, ChromeJudged}
+use Rattle.judge.specs.Judged.{answerBy, Judged, OpenSslJudged, ChromeJudged}
 use Rattle.judge.specs.Obeys.{ObeysOpenSsl, ObeysChrome}
 use Rattle.judge.specs.declared.Answer.{Answer}
 use Rattle.judge.specs.declared.Answer.the-variants.{Broken, Refused}
@@ -93,9 +94,9 @@ module _ (Allowed : Checked → Type 0) (once : (r s : Checked) → Allowed r �
         go (x ∷ u ∷ es) ex h = due-rule u (ex u .0 (List·Memᴰ·tail (List·Memᴰ·head refl))) h
 
 -- ---- Of sound bundles, some of which obey and some of which do not, no judge says the same.
-module _ (w b x d : List ℕ) (sound : NoFault (chainLayout w b) w b) (sound' : NoFault (chainLayout x d) x d) {old new old' new' : List ℕ} {a : Answer} where
+module _ (w b x d : List ℕ) (sound : SoundChain w b) (sound' : SoundChain x d) {old new old' new' : List ℕ} {a : Answer} where
   pub openssl-same-always : ObeysOpenSsl (chainOf w b) → (ObeysOpenSsl (chainOf x d) → ⊥) → OpenSslJudged w b old new a → OpenSslJudged x d old' new' a → ⊥
   openssl-same-always o broken j k = broken (accepts-openssl x d k sound' .0 (accepts-openssl w b j sound .1 o))
 
-  pub chrome-same-always : (pw pb px pd : List ℕ) → NoFault (policyLayout pw pb) pw pb → NoFault (policyLayout px pd) px pd → ObeysChrome (chainOf w b) (listsOf pw pb) → (ObeysChrome (chainOf x d) (listsOf px pd) → ⊥) → ChromeJudged w b pw pb old new a → ChromeJudged x d px pd old' new' a → ⊥
+  pub chrome-same-always : (pw pb px pd : List ℕ) → SoundPolicy pw pb → SoundPolicy px pd → ObeysChrome (chainOf w b) (listsOf pw pb) → (ObeysChrome (chainOf x d) (listsOf px pd) → ⊥) → ChromeJudged w b pw pb old new a → ChromeJudged x d px pd old' new' a → ⊥
   chrome-same-always pw pb px pd s t o broken j k = broken (accepts-chrome x d px pd k sound' t .0 (accepts-chrome w b pw pb j sound s .1 o))

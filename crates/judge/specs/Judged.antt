@@ -5,7 +5,6 @@ use mathlib.Core.Logic.{_⊎_}
 use mathlib.Core.List.{List, [], _∷_}
 use Rattle.model.specs.Model.{Chain, Lists}
 use Rattle.model.specs.Decode.{chainOf, listsOf}
-use Rattle.sound.specs.Fault.{Layout, Fault}
 use Rattle.sound.specs.Answer.{ChainVerdict, PolicyVerdict, bundleNumber, placeKind, placeFirst, placeSecond}
 use Rattle.sound.specs.declared.Place.{Place}
 use Rattle.sound.specs.declared.Place.the-variants.{Nothing, Certificate, Pair}
@@ -45,10 +44,6 @@ answerWords (Broken r q total written) = 1 ∷ 0 ∷ placeKind q ∷ placeFirst 
 answerWords (Refused n j q) = n ∷ bundleNumber j ∷ placeKind q ∷ placeFirst q ∷ placeSecond q ∷ 0 ∷ 0 ∷ 0 ∷ []
 
 -- ---- the judgement
--- a bundle is sound: it has no fault, so no refusal fits it
-abbrev pub NoFault : Layout → List ℕ → List ℕ → Type 0
-NoFault y w b = (n q : ℕ) → Fault y w b n q → ⊥
-
 -- sound bundles are judged: the report is the whole index of faults, and the answer is its first entry's
 pub record Judging (p : Policy) (c : Chain) (l : Lists) (old new : List ℕ) (a : Answer) : Type 0 where
   pub tally : Tally

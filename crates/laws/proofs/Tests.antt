@@ -1,7 +1,8 @@
 -- Tests put together, and taken apart. Assumes nothing.
 use Prim.Native.Nat.{ℕ}
 use mathlib.Core.Path.{_≡_, refl, sym, _∙_}
-use mathlib.Core.Bool.{Bool, true, false, _&&_, _||_, false≢true, true≢false}
+use mathlib.Core.Logic.{_⊎_, inl, inr, ⊎-elim, _↔_}
+use mathlib.Core.Bool.{Bool, true, false, _&&_, _||_, false≢true, true≢false, or-true}
 use lib.Dec.{eqb}
 use borrow.Author.Tests.{eq-eqb, ne-eqb, eqb-true, eqb-false}
 use Rattle.laws.specs.Lists.{pick}
@@ -48,6 +49,17 @@ or-left false q h = refl
 pub or-right : (p q : Bool) → (p || q) ≡ false → q ≡ false
 or-right true q h = absurd (true≢false h)
 or-right false q h = h
+
+-- what they mean, by what their halves mean
+module _ {x y : Bool} {A B : Type 0} (p : (x ≡ true) ↔ A) (q : (y ≡ true) ↔ B) where
+  pub and-means : ((x && y) ≡ true) ↔ (A × B)
+  and-means = (λ h. (p .0 (and-left x y h), q .0 (and-right x y h)), λ h. rw (p .1 (h .0)) (q .1 (h .1)))
+
+  pub or-means : ((x || y) ≡ true) ↔ (A ⊎ B)
+  or-means = (λ h. split x refl h, ⊎-elim (λ a. rw (p .1 a) refl) (λ b. rw (q .1 b) (or-true x))) where
+    split : (t : Bool) → x ≡ t → (t || y) ≡ true → A ⊎ B
+    split true e h = inl (p .0 e)
+    split false e h = inr (q .0 h)
 
 -- equality of numbers is asked either way round
 pub eqb-sym : (a b : ℕ) → eqb a b ≡ eqb b a

@@ -1,4 +1,4 @@
--- Refusals 5 to 8, one line for each number and field: the refusal's number, the rows, the word of the row, and what is wrong with it. Assumes nothing.
+-- The tables by which the code looks for refusals 5 to 8: a refusal's number, the rows, the word of the row, and the test. That they know what document 01 says is proved in `sound`. Assumes nothing.
 use Prim.Native.Nat.{ℕ}
 use mathlib.Core.List.{List, [], _∷_, _++_}
 use Rattle.table.specs.Table.{strings}

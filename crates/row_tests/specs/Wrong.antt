@@ -1,4 +1,4 @@
--- What can be wrong with a word of a row, from document 01's refusals 5 to 8. q is the word at which the row begins, j the word of the row that is asked.
+-- What can be wrong with a word of a row, as tests. `sound` states the same with orders and equations. q is the word at which the row begins, j the word of the row that is asked.
 -- A word past the end is 0, so every line has a meaning for every bundle. Assumes nothing.
 use Prim.Native.Nat.{ℕ, _+_, _-_}
 use mathlib.Core.List.{List}

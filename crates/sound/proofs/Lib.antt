@@ -1,3 +1,9 @@
+pub mod ChainLines
 pub mod Fitting
+pub mod Means
 pub mod Order
+pub mod PolicyLines
+pub mod Shared
+pub mod Stated
+pub mod Tables
 pub mod Verdicts

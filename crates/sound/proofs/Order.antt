@@ -22,7 +22,7 @@ use Rattle.search.specs.declared.Line.{Line}
 use Rattle.search.specs.Rows.{rowsOf, rowAt}
 use Rattle.search.specs.Found.{inWords, searched, firstRow, foundAt, foundIn}
 use Rattle.sound.specs.Answer.{Before, First}
-use Rattle.sound.specs.Fault.{InLine}
+use Rattle.sound.proofs.Tables.{InRows, InLine}
 
 -- what was found is the first of the faults F
 abbrev pub FirstOf : (ℕ → ℕ → Type 0) → Found → Type 0
@@ -95,7 +95,7 @@ module _ (w b : List ℕ) (l : Line) where
     later h = omega (arith, mul-le-mul-left {m = m} {n = i} (rowsOf w (l .block) .size) h)
 
   line-first : (m : ℕ) → Least (λ i. wrong (l .test) w b (rowAt (rowsOf w (l .block)) i) (l .word)) 0 (rowsOf w (l .block) .count) m → FirstOf LineFault (foundAt l (rowsOf w (l .block)) m)
-  unfolding foundAt InLine
+  unfolding foundAt InRows
   line-first m s = go (ltb m (rowsOf w (l .block) .count)) refl where
     go : (t : Bool) → ltb m (rowsOf w (l .block) .count) ≡ t → FirstOf LineFault (pick t (At (l .number) (rowAt (rowsOf w (l .block)) m + l .word)) Clear)
     go true e =

@@ -9,7 +9,8 @@ use Rattle.sound.specs.declared.Place.{Place}
 use Rattle.sound.specs.declared.Place.the-variants.{Nothing, Word, Certificate, Pair}
 use Rattle.sound.specs.declared.Checked.{Checked}
 use Rattle.sound.specs.declared.Checked.the-variants.{Sound, Refused}
-use Rattle.sound.specs.Fault.{Fault, chainLayout, policyLayout}
+use Rattle.sound.specs.ChainFault.{ChainFault}
+use Rattle.sound.specs.PolicyFault.{PolicyFault}
 
 -- ---- document 01's numbers and values of an answer
 -- 0 for the chain's bundle, 1 for the policy's
@@ -52,10 +53,17 @@ abbrev pub Verdict : (ℕ → ℕ → Type 0) → Bundle → Checked → Type 0
 Verdict F k Sound = (n p : ℕ) → F n p → ⊥
 Verdict F k (Refused n j q) = (bundleNumber j ≡ bundleNumber k) × (placeKind q ≡ 1) × First F n (placeFirst q)
 
+-- a bundle is sound if no refusal fits it
+abbrev pub SoundChain : List ℕ → List ℕ → Type 0
+SoundChain w b = (n p : ℕ) → ChainFault w b n p → ⊥
+
+abbrev pub SoundPolicy : List ℕ → List ℕ → Type 0
+SoundPolicy w b = (n p : ℕ) → PolicyFault w b n p → ⊥
+
 -- the chain's bundle
 unfoldable pub ChainVerdict : List ℕ → List ℕ → Checked → Type 0
-ChainVerdict w b = Verdict (Fault (chainLayout w b) w b) Chain
+ChainVerdict w b = Verdict (ChainFault w b) Chain
 
 -- the policy's bundle
 unfoldable pub PolicyVerdict : List ℕ → List ℕ → Checked → Type 0
-PolicyVerdict w b = Verdict (Fault (policyLayout w b) w b) Policy
+PolicyVerdict w b = Verdict (PolicyFault w b) Policy

@@ -5,7 +5,7 @@ ghost use lib.Dec.{eqb, ltb};
 ghost use Rattle.table.specs.Table.{word as wordOf, countOf};
 ghost use Rattle.model.specs.Sections.{certs};
 ghost use Rattle.sound.specs.Answer.{ChainVerdict, PolicyVerdict};
-ghost use Rattle.sound.specs.Fault.{tooLarge, mostCerts, edition};
+ghost use Rattle.sound.specs.Limits.{tooLarge, mostCerts, edition};
 use model::chain::CERTS;
 use sections::CHAIN_HEADER;
 use sections::Found;

@@ -2,8 +2,7 @@ use mathlib.Core.Path.{ap₂}
 use mathlib.Core.Bool.{_||_}
 use Rattle.sound.specs.declared.Bundle.the-variants.{Chain}
 use Rattle.sound.specs.Answer.{ChainVerdict}
-use Rattle.sound.specs.Fault.{chainLayout}
-use Rattle.sound.proofs.Fitting.{chain-from5, chain-within}
+use Rattle.sound.proofs.Stated.{chain-known}
 use Rattle.sound.proofs.Verdicts.{answer-size, answer-edition, answer-fine, answer-section, answer-line, answer-sound}
 use borrow.Author.Needs.{needs}
 use Rattle.sound.proofs.check_chain.Statement.{statement}
@@ -20,7 +19,7 @@ refused-requires c κs = search needs
 
 returns : tie.Need-returns
 unfolding ChainVerdict
-returns c = answer-size (chainLayout _ _) _ _ chain-from5 Chain (ap₂ _||_ (c .before .before .before .is-too-large .ensures) (c .before .before .has-too-many .ensures)) (c .before .if1 .taken) (c .refused .ensures)
+returns c = answer-size (chain-known _ _) Chain (ap₂ _||_ (c .before .before .before .is-too-large .ensures) (c .before .before .has-too-many .ensures)) (c .before .if1 .taken) (c .refused .ensures)
 
 has-other-edition-requires : tie.Need-has-other-edition-requires
 has-other-edition-requires c κs = search needs
@@ -30,14 +29,14 @@ refused-requires-2 c κs = search needs
 
 returns-2 : tie.Need-returns-2
 unfolding ChainVerdict
-returns-2 c = answer-edition (chainLayout _ _) _ _ chain-from5 Chain (ap₂ _||_ (c .before .before .before .before .before .is-too-large .ensures) (c .before .before .before .before .has-too-many .ensures)) (c .before .before .before .if1 .left) (c .before .before .has-other-edition .ensures) (c .before .if2 .taken) (c .refused2 .ensures)
+returns-2 c = answer-edition (chain-known _ _) Chain (ap₂ _||_ (c .before .before .before .before .before .is-too-large .ensures) (c .before .before .before .before .has-too-many .ensures)) (c .before .before .before .if1 .left) (c .before .before .has-other-edition .ensures) (c .before .if2 .taken) (c .refused2 .ensures)
 
 chain-fine-requires : tie.Need-chain-fine-requires
 chain-fine-requires c κs = search needs
 
 returns-3 : tie.Need-returns-3
 unfolding ChainVerdict
-returns-3 c = answer-fine (chainLayout _ _) _ _ chain-from5 Chain (ap₂ _||_ (c .before .before .before .before .before .before .is-too-large .ensures) (c .before .before .before .before .before .has-too-many .ensures)) (c .before .before .before .before .if1 .left) (c .before .before .before .has-other-edition .ensures) (c .before .before .if2 .left) (c .before .chain-fine .ensures) (c .if3 .taken)
+returns-3 c = answer-fine (chain-known _ _) Chain (ap₂ _||_ (c .before .before .before .before .before .before .is-too-large .ensures) (c .before .before .before .before .before .has-too-many .ensures)) (c .before .before .before .before .if1 .left) (c .before .before .before .has-other-edition .ensures) (c .before .before .if2 .left) (c .before .chain-fine .ensures) (c .if3 .taken)
 
 chain-misplaced-requires : tie.Need-chain-misplaced-requires
 chain-misplaced-requires c κs = search needs
@@ -50,7 +49,7 @@ refused-requires-3 c κs = search needs
 
 returns-4 : tie.Need-returns-4
 unfolding ChainVerdict
-returns-4 c = answer-section (chainLayout _ _) _ _ chain-from5 Chain (ap₂ _||_ (c .before .before .before .before .before .before .before .before .before .before .before .is-too-large .ensures) (c .before .before .before .before .before .before .before .before .before .before .has-too-many .ensures)) (c .before .before .before .before .before .before .before .before .before .if1 .left) (c .before .before .before .before .before .before .before .before .has-other-edition .ensures) (c .before .before .before .before .before .before .before .if2 .left) (c .before .before .before .before .chain-misplaced .ensures) _ _ (c .before .before .s .given .1) (c .refused3 .ensures)
+returns-4 c = answer-section (chain-known _ _) Chain (ap₂ _||_ (c .before .before .before .before .before .before .before .before .before .before .before .is-too-large .ensures) (c .before .before .before .before .before .before .before .before .before .before .has-too-many .ensures)) (c .before .before .before .before .before .before .before .before .before .if1 .left) (c .before .before .before .before .before .before .before .before .has-other-edition .ensures) (c .before .before .before .before .before .before .before .if2 .left) (c .before .before .before .before .chain-misplaced .ensures) _ _ (c .before .before .s .given .1) (c .refused3 .ensures)
 
 enum-told : tie.Need-enum-told
 enum-told c = search needs
@@ -69,11 +68,11 @@ refused-requires-4 c κs = search needs
 
 returns-5 : tie.Need-returns-5
 unfolding ChainVerdict
-returns-5 c = answer-sound (chainLayout _ _) _ _ chain-from5 Chain (ap₂ _||_ (c .before .before .before .before .before .before .before .before .before .before .before .before .is-too-large .ensures) (c .before .before .before .before .before .before .before .before .before .before .before .has-too-many .ensures)) (c .before .before .before .before .before .before .before .before .before .before .if1 .left) (c .before .before .before .before .before .before .before .before .before .has-other-edition .ensures) (c .before .before .before .before .before .before .before .before .if2 .left) (c .before .before .before .before .before .chain-misplaced .ensures) (c .before .before .before .enum-told .given .1) (chain-within _) (c .before .before .chain-wrong .ensures) (c .enum-told2 .given .1)
+returns-5 c = answer-sound (chain-known _ _) Chain (ap₂ _||_ (c .before .before .before .before .before .before .before .before .before .before .before .before .is-too-large .ensures) (c .before .before .before .before .before .before .before .before .before .before .before .has-too-many .ensures)) (c .before .before .before .before .before .before .before .before .before .before .if1 .left) (c .before .before .before .before .before .before .before .before .before .has-other-edition .ensures) (c .before .before .before .before .before .before .before .before .if2 .left) (c .before .before .before .before .before .chain-misplaced .ensures) (c .before .before .before .enum-told .given .1) (c .before .before .chain-wrong .ensures) (c .enum-told2 .given .1)
 
 returns-6 : tie.Need-returns-6
 unfolding ChainVerdict
-returns-6 c = answer-line (chainLayout _ _) _ _ chain-from5 Chain (ap₂ _||_ (c .before .before .before .before .before .before .before .before .before .before .before .before .before .before .is-too-large .ensures) (c .before .before .before .before .before .before .before .before .before .before .before .before .before .has-too-many .ensures)) (c .before .before .before .before .before .before .before .before .before .before .before .before .if1 .left) (c .before .before .before .before .before .before .before .before .before .before .before .has-other-edition .ensures) (c .before .before .before .before .before .before .before .before .before .before .if2 .left) (c .before .before .before .before .before .before .before .chain-misplaced .ensures) (c .before .before .before .before .before .enum-told .given .1) (chain-within _) (c .before .before .before .before .chain-wrong .ensures) _ _ (c .before .before .f .given .1) (c .refused4 .ensures)
+returns-6 c = answer-line (chain-known _ _) Chain (ap₂ _||_ (c .before .before .before .before .before .before .before .before .before .before .before .before .before .before .is-too-large .ensures) (c .before .before .before .before .before .before .before .before .before .before .before .before .before .has-too-many .ensures)) (c .before .before .before .before .before .before .before .before .before .before .before .before .if1 .left) (c .before .before .before .before .before .before .before .before .before .before .before .has-other-edition .ensures) (c .before .before .before .before .before .before .before .before .before .before .if2 .left) (c .before .before .before .before .before .before .before .chain-misplaced .ensures) (c .before .before .before .before .before .enum-told .given .1) (c .before .before .before .before .chain-wrong .ensures) _ _ (c .before .before .f .given .1) (c .refused4 .ensures)
 
 pub check-chain-spec : {M : Type 1} → statement M
 check-chain-spec =

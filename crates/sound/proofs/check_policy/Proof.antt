@@ -1,7 +1,6 @@
 use Rattle.sound.specs.declared.Bundle.the-variants.{Policy}
 use Rattle.sound.specs.Answer.{PolicyVerdict}
-use Rattle.sound.specs.Fault.{policyLayout}
-use Rattle.sound.proofs.Fitting.{policy-from5, policy-within}
+use Rattle.sound.proofs.Stated.{policy-known}
 use Rattle.sound.proofs.Verdicts.{answer-size, answer-edition, answer-section, answer-line, answer-sound}
 use borrow.Author.Needs.{needs}
 use Rattle.sound.proofs.check_policy.Statement.{statement}
@@ -15,7 +14,7 @@ refused-requires c κs = search needs
 
 returns : tie.Need-returns
 unfolding PolicyVerdict
-returns c = answer-size (policyLayout _ _) _ _ policy-from5 Policy (c .before .before .is-too-large .ensures) (c .before .if1 .taken) (c .refused .ensures)
+returns c = answer-size (policy-known _ _) Policy (c .before .before .is-too-large .ensures) (c .before .if1 .taken) (c .refused .ensures)
 
 has-other-edition-requires : tie.Need-has-other-edition-requires
 has-other-edition-requires c κs = search needs
@@ -25,7 +24,7 @@ refused-requires-2 c κs = search needs
 
 returns-2 : tie.Need-returns-2
 unfolding PolicyVerdict
-returns-2 c = answer-edition (policyLayout _ _) _ _ policy-from5 Policy (c .before .before .before .before .is-too-large .ensures) (c .before .before .before .if1 .left) (c .before .before .has-other-edition .ensures) (c .before .if2 .taken) (c .refused2 .ensures)
+returns-2 c = answer-edition (policy-known _ _) Policy (c .before .before .before .before .is-too-large .ensures) (c .before .before .before .if1 .left) (c .before .before .has-other-edition .ensures) (c .before .if2 .taken) (c .refused2 .ensures)
 
 policy-misplaced-requires : tie.Need-policy-misplaced-requires
 policy-misplaced-requires c κs = search needs
@@ -38,7 +37,7 @@ refused-requires-3 c κs = search needs
 
 returns-3 : tie.Need-returns-3
 unfolding PolicyVerdict
-returns-3 c = answer-section (policyLayout _ _) _ _ policy-from5 Policy (c .before .before .before .before .before .before .before .before .is-too-large .ensures) (c .before .before .before .before .before .before .before .if1 .left) (c .before .before .before .before .before .before .has-other-edition .ensures) (c .before .before .before .before .before .if2 .left) (c .before .before .before .before .policy-misplaced .ensures) _ _ (c .before .before .s .given .1) (c .refused3 .ensures)
+returns-3 c = answer-section (policy-known _ _) Policy (c .before .before .before .before .before .before .before .before .is-too-large .ensures) (c .before .before .before .before .before .before .before .if1 .left) (c .before .before .before .before .before .before .has-other-edition .ensures) (c .before .before .before .before .before .if2 .left) (c .before .before .before .before .policy-misplaced .ensures) _ _ (c .before .before .s .given .1) (c .refused3 .ensures)
 
 enum-told : tie.Need-enum-told
 enum-told c = search needs
@@ -57,11 +56,11 @@ refused-requires-4 c κs = search needs
 
 returns-4 : tie.Need-returns-4
 unfolding PolicyVerdict
-returns-4 c = answer-sound (policyLayout _ _) _ _ policy-from5 Policy (c .before .before .before .before .before .before .before .before .before .is-too-large .ensures) (c .before .before .before .before .before .before .before .before .if1 .left) (c .before .before .before .before .before .before .before .has-other-edition .ensures) (c .before .before .before .before .before .before .if2 .left) (c .before .before .before .before .before .policy-misplaced .ensures) (c .before .before .before .enum-told .given .1) (policy-within _) (c .before .before .policy-wrong .ensures) (c .enum-told2 .given .1)
+returns-4 c = answer-sound (policy-known _ _) Policy (c .before .before .before .before .before .before .before .before .before .is-too-large .ensures) (c .before .before .before .before .before .before .before .before .if1 .left) (c .before .before .before .before .before .before .before .has-other-edition .ensures) (c .before .before .before .before .before .before .if2 .left) (c .before .before .before .before .before .policy-misplaced .ensures) (c .before .before .before .enum-told .given .1) (c .before .before .policy-wrong .ensures) (c .enum-told2 .given .1)
 
 returns-5 : tie.Need-returns-5
 unfolding PolicyVerdict
-returns-5 c = answer-line (policyLayout _ _) _ _ policy-from5 Policy (c .before .before .before .before .before .before .before .before .before .before .before .is-too-large .ensures) (c .before .before .before .before .before .before .before .before .before .before .if1 .left) (c .before .before .before .before .before .before .before .before .before .has-other-edition .ensures) (c .before .before .before .before .before .before .before .before .if2 .left) (c .before .before .before .before .before .before .before .policy-misplaced .ensures) (c .before .before .before .before .before .enum-told .given .1) (policy-within _) (c .before .before .before .before .policy-wrong .ensures) _ _ (c .before .before .f .given .1) (c .refused4 .ensures)
+returns-5 c = answer-line (policy-known _ _) Policy (c .before .before .before .before .before .before .before .before .before .before .before .is-too-large .ensures) (c .before .before .before .before .before .before .before .before .before .before .if1 .left) (c .before .before .before .before .before .before .before .before .before .has-other-edition .ensures) (c .before .before .before .before .before .before .before .before .if2 .left) (c .before .before .before .before .before .before .before .policy-misplaced .ensures) (c .before .before .before .before .before .enum-told .given .1) (c .before .before .before .before .policy-wrong .ensures) _ _ (c .before .before .f .given .1) (c .refused4 .ensures)
 
 pub check-policy-spec : {M : Type 1} → statement M
 check-policy-spec =

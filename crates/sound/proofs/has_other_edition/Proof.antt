@@ -2,7 +2,7 @@ use mathlib.Core.Path.{ap}
 use mathlib.Core.Bool.{not}
 use lib.Dec.{eqb}
 use borrow.Author.Needs.{needs}
-use Rattle.sound.specs.Fault.{edition}
+use Rattle.sound.specs.Limits.{edition}
 use Rattle.sound.proofs.has_other_edition.Statement.{statement}
 use Rattle.sound.proofs.has_other_edition.Tie as tie
 

@@ -1,7 +1,7 @@
 use mathlib.Core.Path.{ap}
 use lib.Dec.{ltb}
 use borrow.Author.Needs.{needs}
-use Rattle.sound.specs.Fault.{mostCerts}
+use Rattle.sound.specs.Limits.{mostCerts}
 use Rattle.sound.proofs.has_too_many.Statement.{statement}
 use Rattle.sound.proofs.has_too_many.Tie as tie
 

@@ -1,5 +1,5 @@
 use mathlib.Core.Path.{refl}
-use Rattle.sound.specs.Fault.{tooLarge}
+use Rattle.sound.specs.Limits.{tooLarge}
 use Rattle.sound.proofs.is_too_large.Statement.{statement}
 use Rattle.sound.proofs.is_too_large.Tie as tie
 
