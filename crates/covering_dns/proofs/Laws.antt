@@ -13,7 +13,7 @@ use Rattle.model.specs.Model.{Bytes, Name}
 use Rattle.model.specs.Sections.{names}
 use Rattle.model.specs.Decode.{generalOf, kindAt, nameText}
 use Rattle.sans.specs.declared.Kind.the-variants.{Dns}
-use Rattle.sans.proofs.Laws.{kind-is, dns-then, dns-other}
+use Rattle.sans.proofs.Laws.{kind-is, dns-and, kind-then, kind-other}
 use Rattle.covering_dns.specs.declared.Covering.{Covering}
 use Rattle.covering_dns.specs.declared.Covering.the-variants.{Lowered, Cleaned}
 use Rattle.covering_dns.specs.Covers.{dnsCovers, overDns}
@@ -31,11 +31,11 @@ module _ (v : Covering) (c n : Bytes) {r : Bool} where
 module _ (v : Covering) (n : Bytes) (g : ℕ) (t : Bytes) (m : Name) {q : ℕ} (e : q ≡ g) where
   pub kind-dns : {r : Bool} → q ≡ 0 → r ≡ dnsCovers v t n → r ≡ overDns v n (generalOf g t m)
   unfolding overDns
-  kind-dns z h = dns-then t m (λ c. dnsCovers v c n) g (kind-is t m Dns g e refl) (eq-eqb q 0 z) h
+  kind-dns z h = kind-then (dns-and t m (λ c. dnsCovers v c n) g) (kind-is t m Dns g e refl) (eq-eqb q 0 z) h
 
   pub kind-no-dns : (q ≡ 0 → ⊥) → false ≡ overDns v n (generalOf g t m)
   unfolding overDns
-  kind-no-dns z = dns-other t m (λ c. dnsCovers v c n) g (kind-is t m Dns g e refl) (ne-eqb q 0 z)
+  kind-no-dns z = kind-other (dns-and t m (λ c. dnsCovers v c n) g) (kind-is t m Dns g e refl) (ne-eqb q 0 z)
 
 -- ---- a row of names that begin at a, of strings that begin at s
 module _ (w : List ℕ) (n : ℕ) {a : ℕ} (e : a ≡ offsetOf w names) where

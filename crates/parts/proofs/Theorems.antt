@@ -13,8 +13,8 @@ use borrow.Author.Tests.{ne-eqb}
 use Rattle.laws.specs.Lists.{isEmpty}
 use Rattle.laws.specs.Optional.{thereAnd}
 use Rattle.laws.proofs.Optional.{if-there-means, there-and-means}
-use Rattle.laws.proofs.Tests.{and-left, and-right}
-use Rattle.model.specs.Model.{Mark, noMark, notCritical, critical, Name, Cert, Bc, San}
+use Rattle.laws.proofs.Tests.{and-left, and-right, and-means}
+use Rattle.model.specs.Model.{Mark, noMark, notCritical, critical, Name, Cert, Bc, Ku, San}
 use Rattle.parts.specs.Ca.{checkCa}
 use Rattle.parts.specs.EmptySubject.{emptySubjectImpliesCriticalSan}
 use Rattle.model.specs.Marks.{isCritical}
@@ -25,12 +25,7 @@ use Rattle.parts.specs.Stated.{CheckCa, PathLengthHolds, CheckSan, Empty
 -- ---- rule 9
 pub check-ca-means : (c : Cert) → (checkCa c ≡ true) ↔ CheckCa c
 unfolding checkCa
-check-ca-means c = (to, from) where
-  to : checkCa c ≡ true → CheckCa c
-  to h = (there-and-means _ (c .bc) .0 (and-left _ _ h), if-there-means _ (c .ku) .0 (and-right (thereAnd (λ (b : Bc). b .ca) (c .bc)) _ h))
-
-  from : CheckCa c → checkCa c ≡ true
-  from (b, k) = rw (there-and-means (λ (b : Bc). b .ca) (c .bc) .1 b) (if-there-means _ (c .ku) .1 k)
+check-ca-means c = and-means (there-and-means (λ (b : Bc). b .ca) (c .bc)) (if-there-means (λ (k : Ku). k .keyCertSign) (c .ku))
 
 -- ---- rule 10
 truth : (t : Bool) → t ≡ true → T t

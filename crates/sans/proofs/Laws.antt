@@ -6,7 +6,7 @@ use mathlib.Core.Bool.{Bool, true, false, _&&_}
 use lib.Dec.{eqb}
 use borrow.Author.Tests.{ne-eqb}
 use Rattle.laws.proofs.Tests.{and-then, and-stop}
-use Rattle.model.specs.Model.{Bytes, Name}
+use Rattle.model.specs.Model.{Bytes, Name, GeneralName}
 use Rattle.model.specs.Decode.{generalOf}
 use Rattle.sans.specs.declared.Kind.{Kind}
 use Rattle.sans.specs.declared.Kind.the-variants.{Dns, Directory, Ip}
@@ -30,48 +30,39 @@ module _ (t : Bytes) (m : Name) where
   pub kind-is : (k : Kind) (g : ℕ) {q n : ℕ} → q ≡ g → n ≡ numberOf k → eqb q n ≡ isKind k (generalOf g t m)
   kind-is k g e f = rw (e, f) (kind-same k g)
 
-  -- ---- to be of a kind and pass: r is whether the name is of the kind, s what is asked of it then
-  dns-and : (p : Bytes → Bool) (g : ℕ) → (isKind Dns (generalOf g t m) && p t) ≡ dnsAnd p (generalOf g t m)
+-- ---- a test f of a name n that asks names of kind k alone, and y of these
+pub record Asks (k : Kind) (n : GeneralName) (y f : Bool) : Type 0 where
+  pub is : (isKind k n && y) ≡ f
+
+module _ (t : Bytes) (m : Name) where
+  pub dns-and : (p : Bytes → Bool) (g : ℕ) → Asks Dns (generalOf g t m) (p t) (dnsAnd p (generalOf g t m))
   unfolding isKind dnsAnd generalOf
-  dns-and p zero = refl
-  dns-and p (suc zero) = refl
-  dns-and p (suc (suc zero)) = refl
-  dns-and p (suc (suc (suc zero))) = refl
-  dns-and p (suc (suc (suc (suc g)))) = refl
+  dns-and p zero = record { is = refl }
+  dns-and p (suc zero) = record { is = refl }
+  dns-and p (suc (suc zero)) = record { is = refl }
+  dns-and p (suc (suc (suc zero))) = record { is = refl }
+  dns-and p (suc (suc (suc (suc g)))) = record { is = refl }
 
-  module _ (p : Bytes → Bool) (g : ℕ) {r : Bool} (e : r ≡ isKind Dns (generalOf g t m)) where
-    pub dns-then : {s : Bool} → r ≡ true → s ≡ p t → s ≡ dnsAnd p (generalOf g t m)
-    dns-then h q = and-then e h q ∙ dns-and p g
-
-    pub dns-other : r ≡ false → false ≡ dnsAnd p (generalOf g t m)
-    dns-other h = and-stop e (p t) h ∙ dns-and p g
-
-  directory-and : (p : Name → Bool) (g : ℕ) → (isKind Directory (generalOf g t m) && p m) ≡ directoryAnd p (generalOf g t m)
+  pub directory-and : (p : Name → Bool) (g : ℕ) → Asks Directory (generalOf g t m) (p m) (directoryAnd p (generalOf g t m))
   unfolding isKind directoryAnd generalOf
-  directory-and p zero = refl
-  directory-and p (suc zero) = refl
-  directory-and p (suc (suc zero)) = refl
-  directory-and p (suc (suc (suc zero))) = refl
-  directory-and p (suc (suc (suc (suc g)))) = refl
+  directory-and p zero = record { is = refl }
+  directory-and p (suc zero) = record { is = refl }
+  directory-and p (suc (suc zero)) = record { is = refl }
+  directory-and p (suc (suc (suc zero))) = record { is = refl }
+  directory-and p (suc (suc (suc (suc g)))) = record { is = refl }
 
-  module _ (p : Name → Bool) (g : ℕ) {r : Bool} (e : r ≡ isKind Directory (generalOf g t m)) where
-    pub directory-then : {s : Bool} → r ≡ true → s ≡ p m → s ≡ directoryAnd p (generalOf g t m)
-    directory-then h q = and-then e h q ∙ directory-and p g
-
-    pub directory-other : r ≡ false → false ≡ directoryAnd p (generalOf g t m)
-    directory-other h = and-stop e (p m) h ∙ directory-and p g
-
-  ip-and : (p : Bytes → Bool) (g : ℕ) → (isKind Ip (generalOf g t m) && p t) ≡ ipAnd p (generalOf g t m)
+  pub ip-and : (p : Bytes → Bool) (g : ℕ) → Asks Ip (generalOf g t m) (p t) (ipAnd p (generalOf g t m))
   unfolding isKind ipAnd generalOf
-  ip-and p zero = refl
-  ip-and p (suc zero) = refl
-  ip-and p (suc (suc zero)) = refl
-  ip-and p (suc (suc (suc zero))) = refl
-  ip-and p (suc (suc (suc (suc g)))) = refl
+  ip-and p zero = record { is = refl }
+  ip-and p (suc zero) = record { is = refl }
+  ip-and p (suc (suc zero)) = record { is = refl }
+  ip-and p (suc (suc (suc zero))) = record { is = refl }
+  ip-and p (suc (suc (suc (suc g)))) = record { is = refl }
 
-  module _ (p : Bytes → Bool) (g : ℕ) {r : Bool} (e : r ≡ isKind Ip (generalOf g t m)) where
-    pub ip-then : {s : Bool} → r ≡ true → s ≡ p t → s ≡ ipAnd p (generalOf g t m)
-    ip-then h q = and-then e h q ∙ ip-and p g
+-- its answer, by whether the name is of the kind, and by what is asked of it then
+module _ {k : Kind} {n : GeneralName} {y f : Bool} (a : Asks k n y f) {r : Bool} (e : r ≡ isKind k n) where
+  pub kind-then : {s : Bool} → r ≡ true → s ≡ y → s ≡ f
+  kind-then h q = and-then e h q ∙ a .is
 
-    pub ip-other : r ≡ false → false ≡ ipAnd p (generalOf g t m)
-    ip-other h = and-stop e (p t) h ∙ ip-and p g
+  pub kind-other : r ≡ false → false ≡ f
+  kind-other h = and-stop e y h ∙ a .is

@@ -1,4 +1,4 @@
-use Rattle.sans.proofs.Laws.{directory-then, directory-other}
+use Rattle.sans.proofs.Laws.{directory-and, kind-then, kind-other}
 use Rattle.covering.specs.Covers.{overDirectory}
 use borrow.Author.Needs.{needs}
 use Rattle.covering.proofs.directory_over.Statement.{statement}
@@ -15,11 +15,11 @@ is-subtree-of-requires c κs = search needs
 
 returns : tie.Need-returns
 unfolding overDirectory
-returns c = directory-then _ _ _ _ (c .before .before .before .is-kind .ensures) (c .before .before .if1 .taken) (rw (← c .before .name-range .ensures) (c .is-subtree-of .ensures))
+returns c = kind-then (directory-and _ _ _ _) (c .before .before .before .is-kind .ensures) (c .before .before .if1 .taken) (rw (← c .before .name-range .ensures) (c .is-subtree-of .ensures))
 
 returns-2 : tie.Need-returns-2
 unfolding overDirectory
-returns-2 c = directory-other _ _ _ _ (c .before .is-kind .ensures) (c .if1 .left)
+returns-2 c = kind-other (directory-and _ _ _ _) (c .before .is-kind .ensures) (c .if1 .left)
 
 pub directory-over-spec : {M : Type 1} → statement M
 directory-over-spec =

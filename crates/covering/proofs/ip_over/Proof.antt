@@ -1,4 +1,4 @@
-use Rattle.sans.proofs.Laws.{ip-then, ip-other}
+use Rattle.sans.proofs.Laws.{ip-and, kind-then, kind-other}
 use Rattle.covering.specs.Covers.{overIp}
 use borrow.Author.Needs.{needs}
 use Rattle.covering.proofs.ip_over.Statement.{statement}
@@ -15,11 +15,11 @@ ip-addr-in-range-requires c κs = search needs
 
 returns : tie.Need-returns
 unfolding overIp
-returns c = ip-then _ _ _ _ (c .before .before .before .is-kind .ensures) (c .before .before .if1 .taken) (rw (← c .before .name-text .ensures) (c .ip-addr-in-range .ensures))
+returns c = kind-then (ip-and _ _ _ _) (c .before .before .before .is-kind .ensures) (c .before .before .if1 .taken) (rw (← c .before .name-text .ensures) (c .ip-addr-in-range .ensures))
 
 returns-2 : tie.Need-returns-2
 unfolding overIp
-returns-2 c = ip-other _ _ _ _ (c .before .is-kind .ensures) (c .if1 .left)
+returns-2 c = kind-other (ip-and _ _ _ _) (c .before .is-kind .ensures) (c .if1 .left)
 
 pub ip-over-spec : {M : Type 1} → statement M
 ip-over-spec =
