@@ -121,8 +121,7 @@ def start(variant, policy):
 """
 
 
-def entries(variant, policy):
-    opens = OPENS.replace("PLACES", policy["places"])
+def entries_uses(variant, policy):
     lines = [
         f"-- Where the entries of each of {policy['says']}'s rules stand, and that no rule besides has any. Written by tools/obeying.py. Assumes nothing.",
         "use Prim.Native.Nat.{ℕ, _+_, " + ("_-_, " if variant == "Chrome" else "") + "_≤_, _<_}",
@@ -151,6 +150,13 @@ def entries(variant, policy):
         f"use Rattle.policies.specs.declared.Policy.the-variants.{{{variant}}}",
         f"use Rattle.policies.proofs.Besides.{{not-{variant.lower()}}}",
         "use Rattle.policies.proofs.Laws.{no-more}",
+    ]
+    return lines
+
+
+def entries(variant, policy):
+    opens = OPENS.replace("PLACES", policy["places"])
+    lines = entries_uses(variant, policy) + [
         "",
         start(variant, policy),
         "  -- the entries of the chain, in order",
@@ -208,13 +214,11 @@ def quiet_case(r, places):
     return f"{quiet} (fails _ (o .rule-{r}))"
 
 
-def obeying(variant, policy):
-    opens = OPENS.replace("PLACES", policy["places"])
-    rules = sorted(policy["rules"].items())
+def obeying_uses(variant, policy):
     kinds = [k for k in SPOTS if any(places[0] == k for places, _ in policy["rules"].values())]
     record = policy["obeys"].split()[0]
     laws = ["holds", "fails", "by-number", "long", *("at-" + k for k in kinds), "Quiet", "quiet-nowhere", *("quiet-" + k for k in kinds)]
-    lines = [
+    return [
         f"-- A chain obeys {policy['says']}'s rules exactly if no entry is due: each rule at its places, and no rule besides. Written by tools/obeying.py. Assumes nothing.",
         "use Prim.Native.Nat.{ℕ}",
         "use native.Mathlib.Omega.{arith}",
@@ -233,6 +237,13 @@ def obeying(variant, policy):
         f"use Rattle.policies.specs.declared.Policy.the-variants.{{{variant}}}",
         f"use Rattle.judge.specs.Obeys.{{{record}}}",
         f"use Rattle.judge.proofs.Places.{{{', '.join(laws)}}}",
+    ]
+
+
+def obeying(variant, policy):
+    opens = OPENS.replace("PLACES", policy["places"])
+    rules = sorted(policy["rules"].items())
+    lines = obeying_uses(variant, policy) + [
         "",
         start(variant, policy),
         f"  pub obeys : ((e : Entry) → Due short T P n e → ⊥) → {policy['obeys']}",

@@ -168,6 +168,24 @@ def loop_start(row, kind):
     ]
 
 
+def loop_uses(crate, row, kind, text):
+    law = kind.get("law")
+    early, law_of_none, _, paths = kind.get("early", (None, None, None, []))
+    return [
+        some("Prim.Native.Nat", (["_+_"] if "+" in kind["turn"] else []) + ["_-_", "_≤_", "_<_"]),
+        "native.Mathlib.Omega.{arith}",
+        some("mathlib.Core.Path", ([] if law else ["refl"]) + paths + (["_∙_"] if "skips" in kind else [])),
+        "mathlib.Core.Logic.{⊎-elim}" if "skips" in kind else None,
+        "borrow.Author.Needs.{needs}",
+        some("Rattle.faults.specs.Report", used(["certificate", "pair"], text)),
+        some("Rattle.faults.specs.Index", used(["asked", "row", "entriesAt", "index"], text)),
+        some("Rattle.faults.proofs.Laws", ["SoFar", "so-far-none", "so-far-more", *(["so-far-same"] if "skips" in kind else []), *([law] if law else []), "so-far-done"]),
+        some(row["tables"], used([row["places"], "rules"], text)),
+        some(row["specs"], used([row["test"]], text)),
+        f"Rattle.{crate}.proofs.Laws.{{{law_of_none.split()[0]}}}" if early else None,
+    ]
+
+
 def loop(crate, row, function, kind):
     """A loop that lends the tail of the report to one writer a turn."""
     call, var, law = dashed(kind["call"]), kind["var"], kind.get("law")
@@ -182,7 +200,7 @@ def loop(crate, row, function, kind):
     step = "add-next" if "next" in kind else f"add-{var}"
     before, after = ([step], []) if "next" in kind else ([], [step])
     done = f"so-far-done _ ({back(1)} .loop .inv .{known}) (omega arith)"
-    early, law_of_none, told, paths = kind.get("early", (None, None, None, []))
+    early, law_of_none, told, _ = kind.get("early", (None, None, None, []))
     first = {f"{early}-requires": "search needs", "returns": f"{law_of_none} {told}"} if early else {}
     answers = {
         **first,
@@ -197,20 +215,7 @@ def loop(crate, row, function, kind):
     }
     start = loop_start(row, kind)
     text = "\n".join(start) + " " + kind.get("opens", "")
-    uses = [
-        some("Prim.Native.Nat", (["_+_"] if "+" in kind["turn"] else []) + ["_-_", "_≤_", "_<_"]),
-        "native.Mathlib.Omega.{arith}",
-        some("mathlib.Core.Path", ([] if law else ["refl"]) + paths + (["_∙_"] if "skips" in kind else [])),
-        "mathlib.Core.Logic.{⊎-elim}" if "skips" in kind else None,
-        "borrow.Author.Needs.{needs}",
-        some("Rattle.faults.specs.Report", used(["certificate", "pair"], text)),
-        some("Rattle.faults.specs.Index", used(["asked", "row", "entriesAt", "index"], text)),
-        some("Rattle.faults.proofs.Laws", ["SoFar", "so-far-none", "so-far-more", *(["so-far-same"] if "skips" in kind else []), *([law] if law else []), "so-far-done"]),
-        some(row["tables"], used([row["places"], "rules"], text)),
-        some(row["specs"], used([row["test"]], text)),
-        f"Rattle.{crate}.proofs.Laws.{{{law_of_none.split()[0]}}}" if early else None,
-    ]
-    return proof(crate, function, "Each turn writes into what the turns before it left free.", uses, answers, start)
+    return proof(crate, function, "Each turn writes into what the turns before it left free.", loop_uses(crate, row, kind, text), answers, start)
 
 
 def table(crate, row, function, definition, arms):

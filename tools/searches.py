@@ -1,4 +1,5 @@
-"""The proofs of functions that look at one thing after the other: in crate sections the sections, in crate lines lines and groups of lines, in crate search the rows of a line."""
+"""The proofs of functions that look at one thing after the other: in crate sections the sections, in crate lines lines and groups of lines, in crate search the rows of a line, in crate
+quick the rows of a section."""
 
 # A function that looks at lines: its list in specs/Tables, and for each line the function that it calls.
 HEADER, ROWS, CERTS, MARK, RANGE, LIST = "in_header", "in_rows", "in_certs", "mark_over", "list_out", "in_list"
@@ -24,6 +25,11 @@ LOOPS = {
     "first_no_range": ("words s j", True, "no_range", "noRange {words} {s} ({q} + {j})"),
     "first_high": ("words bytes j", True, "number_high", "highString {words} {bytes} (word {words} ({q} + {j}))"),
     "first_wrong": ("words bytes t j", False, "is_wrong", "wrong {t} {words} {bytes} {q} {j}"),
+}
+# A loop over the rows of a section: the section, the function that asks a row, and the counts of other sections that it is given, each with that section.
+FINE = {
+    "attributes_fine": ("attributes", "attribute_fits", {"strings": "stringRows"}),
+    "names_fine": ("names", "name_fits", {"strings": "stringRows", "rdns": "rdnRows"}),
 }
 
 
@@ -108,11 +114,7 @@ def of_groups(name, groups):
     return proof("lines", name, groups, uses, returns)
 
 
-def of_loop(name, parameters, sums, test, definition):
-    names = parameters.split()
-    slices = [p for p in names if p in ("words", "bytes")]
-    inside = definition.format(q="(q₀ + size * k)", **{p: p for p in names})
-    outside = definition.format(q="q", **{p: f"(a .{p}{' .now' if p in slices else ''})" for p in names})
+def loop_uses(name, definition):
     uses = [
         "borrow.Author.Needs.{needs}",
         "Prim.Native.Nat.{ℕ, _+_, _*_, _-_, _≤_}",
@@ -130,6 +132,14 @@ def of_loop(name, parameters, sums, test, definition):
         f"Rattle.search.proofs.{name}.Statement.{{statement}}",
         f"Rattle.search.proofs.{name}.Tie as tie",
     ]
+    return uses
+
+
+def of_loop(name, parameters, sums, test, definition):
+    names = parameters.split()
+    slices = [p for p in names if p in ("words", "bytes")]
+    inside = definition.format(q="(q₀ + size * k)", **{p: p for p in names})
+    outside = definition.format(q="q", **{p: f"(a .{p}{' .now' if p in slices else ''})" for p in names})
     state = f"{parameters} size count q₀ i₀ q i"
     call = dashed(test)
     args = f"let a = {back(4 + len(slices))} .args in "
@@ -151,17 +161,74 @@ def of_loop(name, parameters, sums, test, definition):
         f"row-later (λ (q : ℕ). {outside}) {step} (c .if1 .left) ({back(3)} .loop .inv .3))"
     )
     needs["returns-2"] = "least-none _ _ _ (c .loop-test .left) (c .before .loop .inv .3)"
-    lines = [f"use {use}" for use in uses]
-    lines += ["", "-- the rows that were passed are right", "abbrev Inv-loop : tie.InvT-loop"]
     whole = f"least (λ k. {inside})"
-    lines += [f"Inv-loop {state} = (q ≡ q₀ + size * i) × (i ≤ count) × (q₀ + size * count ≤ length words) × ({whole} 0 count ≡ {whole} i count)"]
-    lines += ["", "abbrev μ-loop : tie.MeasureT-loop", f"μ-loop {state} = count - i"]
+    invariant = f"(q ≡ q₀ + size * i) × (i ≤ count) × (q₀ + size * count ≤ length words) × ({whole} 0 count ≡ {whole} i count)"
+    return loop_proof(name, loop_uses(name, definition), state, invariant, "count - i", needs)
+
+
+def loop_proof(name, uses, state, invariant, measure, needs):
+    lines = [f"use {use}" for use in uses]
+    lines += ["", "-- the rows that were passed are right", "abbrev Inv-loop : tie.InvT-loop", f"Inv-loop {state} = {invariant}"]
+    lines += ["", "abbrev μ-loop : tie.MeasureT-loop", f"μ-loop {state} = {measure}"]
     for need, answer in needs.items():
-        bound = " c κs" if need.endswith("requires") else " c"
-        lines += ["", f"{need} : tie.Need-{need} Inv-loop μ-loop", f"{need}{bound} = {answer}"]
+        bound = " c κs" if "-requires" in need else " c"
+        lines += ["", f"{need} : tie.Need-{need} Inv-loop μ-loop", f"{need}{bound} ={'' if answer.startswith(chr(10)) else ' '}{answer}"]
     spec = dashed(name) + "-spec"
     lines += ["", f"pub {spec} : {{M : Type 1}} → statement M", f"{spec} ="] + closing(["Inv-loop", "μ-loop"] + list(needs))
     return "\n".join(lines) + "\n"
+
+
+def fine_uses(name, section, counts):
+    others = "".join(f", {other} as {rows}" for other, rows in counts.items() if other != "strings")
+    return [
+        "borrow.Author.Needs.{needs}",
+        "Prim.Native.Nat.{_+_, _*_, _-_, _≤_}",
+        "native.Mathlib.Omega.{arith}",
+        "mathlib.Core.Path.{_≡_, refl, sym}",
+        "lib.ListN.{length}",
+        "Rattle.laws.specs.Lists.{numbers, all}",
+        "Rattle.laws.proofs.Loops.{all-none}",
+        "Rattle.table.specs.Table.{countOf, strings as stringRows}",
+        f"Rattle.model.specs.Sections.{{{section}{others}}}",
+        "Rattle.search.specs.declared.Block.the-variants.{All}",
+        "Rattle.search.proofs.Steps.{row-first, row-next}",
+        "Rattle.lines.specs.Tables.{chainLines}",
+        "Rattle.quick_certs.specs.Asked.{rowFine, rowsFine, linesOf}",
+        "Rattle.quick_certs.proofs.Steps.{rows-as, row-stops, row-passes}",
+        "Rattle.quick.specs.Asked.{StringsLie}",
+        f"Rattle.quick.proofs.{name}.Statement.{{statement}}",
+        f"Rattle.quick.proofs.{name}.Tie as tie",
+    ]
+
+
+def of_fine(name, section, test, counts):
+    rows = f"rowFine {{words}} {{bytes}} (linesOf ({section} .count) chainLines)"
+    inside, outside = rows.format(words="words", bytes="bytes"), rows.format(words="(a .words .now)", bytes="(a .bytes .now)")
+    many = len(counts)
+    last = f".count{many + 1}"
+    state = f"words bytes {' '.join(counts)} n q₀ i₀ q i"
+    counted = [f"{back(many + 1 - k)} .count{k + 1 if k else ''} .ensures" for k in range(many)]
+    facts = [f"({count} ≡ countOf words {other})" for count, other in counts.items()]
+    kept = "".join(f", known .{k}" for k in range(2, 3 + many))
+    row = f"_ _ _ _ ({back(2)} .loop-test .taken) (known .0) ({back(1)} .{dashed(test)} .ensures)"
+    known = f"let a = {back(8 + many)} .args in\n    let known = {back(3)} .loop .inv in\n    "
+    needs = {f"count-requires{f'-{k + 1}' if k else ''}": "search needs" for k in range(many + 1)}
+    needs["offset-requires"] = "search needs"
+    needs["loop-holds"] = (
+        f"\n    let known = {back(4 + many)} .pre in\n    (row-first _ ({section} .size), omega (arith, known .0, {back(1)} {last} .ensures, c .offset .ensures), known .1, "
+        f"{', '.join(counted)}, sym (rows-as _ _ {section} ({section} .count) (c .offset .ensures) ({back(1)} {last} .ensures) refl))"
+    )
+    inv = f"{back(1)} .loop .inv"
+    needs[f"{dashed(test)}-requires"] = f"(omega (arith, {inv} .0, {inv} .1){''.join(f', {inv} .{k}' for k in range(2, 3 + many))})"
+    needs["add-q"] = f"omega (arith, {back(3)} .loop .inv .0, {back(3)} .loop .inv .1)"
+    needs["add-i"] = "search needs"
+    needs["loop-less"] = "search needs"
+    needs["loop-again"] = f"\n    {known}(row-next _ _ _ (known .0), known .1{kept}, row-passes ({outside}) {row} (c .if1 .taken) (known .{3 + many}))"
+    needs["returns"] = f"\n    {known}row-stops ({outside}) {row} (c .if1 .left) (known .{3 + many})"
+    needs["returns-2"] = f"all-none _ _ _ _ (c .loop-test .left) ({inv} .{3 + many})"
+    whole = f"(rowsFine words bytes (linesOf ({section} .count) chainLines) (All {section}) ≡ all (λ k. {inside} (q₀ + {section} .size * k)) (numbers i n))"
+    invariant = [f"(q ≡ q₀ + {section} .size * i)", f"(q₀ + {section} .size * n ≤ length words)", "StringsLie words bytes", *facts, whole]
+    return loop_proof(name, fine_uses(name, section, counts), state, " × ".join(invariant), "n - i", needs)
 
 
 def files():
@@ -169,4 +236,5 @@ def files():
     made |= {("lines", name): of_groups(name, groups) for name, groups in GROUPS.items()}
     made |= {("sections", name): of_sections(name, *section) for name, section in SECTIONS.items()}
     made |= {("search", name): of_loop(name, *loop) for name, loop in LOOPS.items()}
+    made |= {("quick", name): of_fine(name, *loop) for name, loop in FINE.items()}
     return {f"crates/{crate}/proofs/{name}/Proof.antt": text for (crate, name), text in made.items()}

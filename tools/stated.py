@@ -110,7 +110,7 @@ def file(bundle, lines, own, large, first, last):
     laws = dict.fromkeys(law.split()[0] for law, _ in lines)
     cases = dict.fromkeys(pattern.split()[0] for _, cases in lines for pattern, _, _ in cases if pattern)
     string = [law for law, _ in lines].index("string-out w b p strings 0")
-    return f"""-- The lines of the {bundle}'s tables and the cases of `{fault}`, one by one. Assumes nothing.
+    return f"""-- The lines of the {bundle}'s tables and the cases of `{fault}`, one by one. Written by tools/stated.py. Assumes nothing.
 use Prim.Native.Nat.{{{own['Nat']}}}
 use native.Mathlib.Omega.{{arith}}
 use mathlib.Core.Path.{{{own['Path']}}}

@@ -1,4 +1,4 @@
--- The lines of the chain's tables and the cases of `ChainFault`, one by one. Assumes nothing.
+-- The lines of the chain's tables and the cases of `ChainFault`, one by one. Written by tools/stated.py. Assumes nothing.
 use Prim.Native.Nat.{ℕ, _<_}
 use native.Mathlib.Omega.{arith}
 use mathlib.Core.Path.{_≡_, refl}

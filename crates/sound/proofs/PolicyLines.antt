@@ -1,4 +1,4 @@
--- The lines of the policy's tables and the cases of `PolicyFault`, one by one. Assumes nothing.
+-- The lines of the policy's tables and the cases of `PolicyFault`, one by one. Written by tools/stated.py. Assumes nothing.
 use Prim.Native.Nat.{ℕ, zero, suc, _<_}
 use native.Mathlib.Omega.{arith}
 use mathlib.Core.Path.{_≡_}
