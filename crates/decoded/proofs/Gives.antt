@@ -1,5 +1,4 @@
--- What a sound bundle gives to its readers: no refusal fits it, so every section lies in the words, every string in the bytes, every number in its table, every code in its range,
--- and names are ASCII. Assumes nothing.
+-- What a sound bundle gives to its readers, since no refusal fits it: what both bundles share, and the laws by which Fields says it of each field. Assumes nothing.
 use Prim.Native.Nat.{ℕ, _+_, _*_, _<_, _≤_}
 use native.Mathlib.Omega.{arith}
 use native.Mathlib.Decide.{decLt}
@@ -34,8 +33,11 @@ module _ (w : List ℕ) (p : ℕ) where
   unfolding NoRange
   range-lies s h = at-most (countOf w s) (word w p + word w (p + 1)) h
 
--- every byte of the string is ASCII
-pub text-is-ascii : (w b : List ℕ) (n : ℕ) → (High w b n → ⊥) → (i : ℕ) → i < length (stringOf w b n) → getD (stringOf w b n) i 0 ≤ 127
+-- every byte of string n is ASCII
+abbrev pub Ascii : List ℕ → List ℕ → ℕ → Type 0
+Ascii w b n = (i : ℕ) → i < length (stringOf w b n) → getD (stringOf w b n) i 0 ≤ 127
+
+pub text-is-ascii : (w b : List ℕ) (n : ℕ) → (High w b n → ⊥) → Ascii w b n
 unfolding High
 text-is-ascii w b n h i k = at-most 127 (getD (stringOf w b n) i 0) (λ l. h (i, k, l))
 

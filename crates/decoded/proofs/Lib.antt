@@ -1,4 +1,5 @@
 pub mod Codes
+pub mod Fields
 pub mod Gives
 pub mod Same
 pub mod Whole

@@ -1,15 +1,14 @@
 -- Equal decoded certificates of sound bundles have equal read words. Assumes nothing.
-use Prim.Native.Nat.{ℕ, _^_, _≤_, _<_}
+use Prim.Native.Nat.{ℕ, _^_, _<_}
 use mathlib.Core.Path.{_≡_, refl, sym, ap, ap₂, _∙_}
 use mathlib.Core.List.{List, _∷_}
-use Rattle.table.specs.Table.{word, countOf, fieldOf}
+use Rattle.table.specs.Table.{countOf}
 use Rattle.model.specs.Sections.{certs}
 use Rattle.model.specs.Decode.{optionalString, certWord, certAt}
 use Rattle.sound.specs.Answer.{SoundChain}
-use Rattle.sound.specs.Where.{CertWord, PartWord}
-use Rattle.sound.specs.ChainFault.{ChainFault, MarkWord, aki, ski, eku, bc, ku, san, nc, policies, aia, keyOver, markOver, caOver, hasLengthOver, kuBitsOver, extensionsOver}
+use Rattle.sound.specs.ChainFault.{aki, ski, eku, bc, ku, san, nc, policies, aia}
 use Rattle.decoded.specs.Words.{readWords, wordsOf}
-use Rattle.decoded.proofs.Gives.{at-most, row-right, part-right}
+use Rattle.decoded.proofs.Fields.{key-in, mark-in, ca-in, has-length-in, ku-bits-in, extensions-in}
 use Rattle.decoded.proofs.Codes.{part-word, part-mark, string-there, flag-word, flag-there, key-word, key-bits, extensions-word, signed-word, bits-word}
 use Rattle.decoded.proofs.Whole.{issuer-whole, subject-whole, usages-whole, names-whole, permitted-whole, excluded-whole}
 
@@ -19,59 +18,43 @@ module _ (w b : List ℕ) (sound : SoundChain w b) (n : ℕ) (h : n < countOf w 
   abbrev v : ℕ → ℕ
   v j = certWord w n j
 
-  -- a code
-  code : (k j : ℕ) → ((p : ℕ) → CertWord w j p → k < word w p → ChainFault w b 6 p) → v j ≤ k
-  unfolding certWord fieldOf
-  code k j line = at-most k _ (row-right (ChainFault w b) sound w (λ p. k < word w p) certs j n h line)
-
-  -- a code of a part that is there
-  part-code : (k m j : ℕ) → (v m ≡ 0 → ⊥) → ((p : ℕ) → PartWord w m j p → k < word w p → ChainFault w b 6 p) → v j ≤ k
-  unfolding certWord fieldOf
-  part-code k m j e line = at-most k _ (part-right (ChainFault w b) sound w (λ p. k < word w p) m j n h e line)
-
-  mark : (m : ℕ) → MarkWord m → v m ≤ 3
-  mark m k = code 3 m (λ p. markOver m k refl)
-
-  key-code : v 11 ≤ 2
-  key-code = code 2 11 (λ p. keyOver refl)
-
   also : {x y : ℕ} {xs ys : List ℕ} → x ≡ y → xs ≡ ys → (x ∷ xs) ≡ (y ∷ ys)
   also e f = ap₂ _∷_ e f
 
   -- the read words of its row are those of the decoded certificate
   pub words-are : readWords v ≡ wordsOf (certAt w b n)
-  unfolding optionalString
+  unfolding optionalString certWord
   words-are =
       also refl (
       also refl (
       also refl (
       also (sym (issuer-whole w b sound n h)) (
       also (sym (subject-whole w b sound n h)) (
-      also (key-word (v 11) (v 12) key-code) (
-      also (key-bits (v 11) (v 12) key-code) (
+      also (key-word (v 11) (v 12) (key-in w b sound n h)) (
+      also (key-bits (v 11) (v 12) (key-in w b sound n h)) (
       also (string-there _ (v 13)) (
       also (string-there _ (v 14)) (
-      also (part-mark _ _ (v 15) (mark 15 (aki refl)) refl) (
+      also (part-mark _ _ (v 15) (mark-in w b sound n h 15 (aki refl)) refl) (
       also (part-word _ _ (v 15) _ (λ e. string-there _ (v 16))) (
       also (part-word _ _ (v 15) _ (λ e. string-there _ (v 17))) (
       also (part-word _ _ (v 15) _ (λ e. string-there _ (v 18))) (
-      also (part-mark _ _ (v 19) (mark 19 (ski refl)) refl) (
-      also (part-mark _ _ (v 21) (mark 21 (eku refl)) refl) (
+      also (part-mark _ _ (v 19) (mark-in w b sound n h 19 (ski refl)) refl) (
+      also (part-mark _ _ (v 21) (mark-in w b sound n h 21 (eku refl)) refl) (
       also (part-word _ _ (v 21) _ (λ e. sym (usages-whole w b sound n h e))) (
-      also (part-mark _ _ (v 24) (mark 24 (bc refl)) refl) (
-      also (part-word _ _ (v 24) _ (λ e. flag-word (v 25) (part-code 1 24 25 e (λ p. caOver refl)))) (
-      also (part-word _ _ (v 24) _ (λ e. flag-there _ (v 26) (part-code 1 24 26 e (λ p. hasLengthOver refl)))) (
+      also (part-mark _ _ (v 24) (mark-in w b sound n h 24 (bc refl)) refl) (
+      also (part-word _ _ (v 24) _ (λ e. flag-word (v 25) (ca-in w b sound n h e))) (
+      also (part-word _ _ (v 24) _ (λ e. flag-there _ (v 26) (has-length-in w b sound n h e))) (
       also (part-word _ _ (v 24) _ (λ e. part-word _ _ (v 26) _ (λ f. signed-word (v 27) wide))) (
-      also (part-mark _ _ (v 28) (mark 28 (ku refl)) refl) (
-      also (part-word _ _ (v 28) _ (λ e. bits-word w b n (part-code 511 28 29 e (λ p. kuBitsOver refl)))) (
-      also (part-mark _ _ (v 30) (mark 30 (san refl)) refl) (
+      also (part-mark _ _ (v 28) (mark-in w b sound n h 28 (ku refl)) refl) (
+      also (part-word _ _ (v 28) _ (λ e. bits-word w b n (ku-bits-in w b sound n h e))) (
+      also (part-mark _ _ (v 30) (mark-in w b sound n h 30 (san refl)) refl) (
       also (part-word _ _ (v 30) _ (λ e. sym (names-whole w b sound n h e))) (
-      also (part-mark _ _ (v 33) (mark 33 (nc refl)) refl) (
+      also (part-mark _ _ (v 33) (mark-in w b sound n h 33 (nc refl)) refl) (
       also (part-word _ _ (v 33) _ (λ e. sym (permitted-whole w b sound n h e))) (
       also (part-word _ _ (v 33) _ (λ e. sym (excluded-whole w b sound n h e))) (
-      also (part-mark _ _ (v 38) (mark 38 (policies refl)) refl) (
-      also (part-mark _ _ (v 39) (mark 39 (aia refl)) refl) (
-      also (extensions-word (v 40) (code 1 40 (λ p. extensionsOver refl))) (
+      also (part-mark _ _ (v 38) (mark-in w b sound n h 38 (policies refl)) refl) (
+      also (part-mark _ _ (v 39) (mark-in w b sound n h 39 (aia refl)) refl) (
+      also (extensions-word (v 40) (extensions-in w b sound n h)) (
       refl))))))))))))))))))))))))))))))
 
 -- equal decoded certificates, of one sound bundle or of two, have equal read words
