@@ -1,7 +1,8 @@
 -- Reads past the end: a word is 0 and a part is cut off. Assumes nothing.
 use Prim.Native.Nat.{ℕ, _+_, _-_, _*_, _/_, _≤_, _<_, min}
 use native.Mathlib.Omega.{arith}
-use native.Mathlib.Nat.{add-sub-cancel-left, div-lt-iff-lt-mul, le-div-iff-mul-le, zero-mul, zero-min}
+use native.Mathlib.Decide.{decLt}
+use native.Mathlib.Nat.{add-sub-cancel-left, div-lt-iff-lt-mul, le-div-iff-mul-le, zero-mul, zero-min, min-eq-left}
 use mathlib.Core.Path.{_≡_, refl, sym, _∙_}
 use mathlib.Core.List.{List, []}
 use lib.ListN.{length, take, drop, length-drop, drop-of-length-le, List·getD-eq-default}
@@ -52,13 +53,12 @@ module _ (w : List ℕ) (s : Section) (n j : ℕ) {at : ℕ} (e : at ≡ offsetO
   unfolding fieldOf
   field-past h = word-past w (offsetOf w s + s .size * n + j) (rw (← e) h)
 
-  module _ (largest : ℕ) {row : ℕ} (t : row ≡ min (s .size * n) largest) (l : length w ≤ largest) where
-    pub field-behind : length w - at ≤ row + j → 0 ≡ fieldOf w s n j
-    field-behind h = field-past (omega (arith, t, l, h))
-
-    pub field-inside : {r : ℕ} → row < length w - at → r ≡ word w (at + row + j) → r ≡ fieldOf w s n j
-    unfolding fieldOf
-    field-inside h q = let k : row ≡ s .size * n = omega (arith, t, l, h) in q ∙ rw (e, k) refl
+  pub field-at : (most : ℕ) {row r : ℕ} → row ≡ min (s .size * n) most → length w ≤ most → r ≡ word w (at + row + j) → r ≡ fieldOf w s n j
+  unfolding fieldOf
+  field-at most t l q = elim (decLt most (s .size * n)) [
+    | yes h ↦ q ∙ sym (word-past w _ (omega (arith, t, l, h))) ∙ field-past (omega (arith, l, h))
+    | no h ↦ q ∙ rw (e, t, min-eq-left {n = s .size * n} {m = most} (omega arith)) refl
+  ]
 
 -- ---- a range
 module _ (first n rows : ℕ) where

@@ -10,6 +10,10 @@ use Rattle.table.specs.declared.Range.{Range}
 unfoldable pub word : List ℕ → ℕ → ℕ
 word w i = getD w i 0
 
+-- no slice has so many words: they would take 2^63 bytes
+abbrev pub far : ℕ
+far = 1152921504606846976
+
 -- the `len` bytes from `start` on
 unfoldable pub part : List ℕ → ℕ → ℕ → List ℕ
 part b start len = take len (drop start b)

@@ -1,7 +1,7 @@
 // Reads of a bundle's words and bytes that ask nothing of their caller: past the end a word is 0 and a part is cut off.
 ghost use mathlib.Core.Path.{_≡_};
 ghost use Prim.Native.Nat.{_*_, min};
-ghost use Rattle.table.specs.Table.{word as wordOf, part, countOf, offsetOf, fieldOf, stringOf, rangeOf};
+ghost use Rattle.table.specs.Table.{word as wordOf, far, part, countOf, offsetOf, fieldOf, stringOf, rangeOf};
 
 // The number of a string: a row of S.
 pub struct StringNo(pub u64);
@@ -26,7 +26,8 @@ pub struct Range {
 
 pub const STRINGS: Section = Section { count: 1, size: 2 };
 
-const LARGEST: u64 = 18446744073709551615;
+// No slice has so many words: 2^60 words take 2^63 bytes. Three numbers up to it have a sum that doesn't wrap.
+const FAR: u64 = 1152921504606846976;
 
 // The word at a place, or 0 past the end.
 pub fn word(words: &[u64], at: usize) -> u64
@@ -59,48 +60,43 @@ pub fn count(words: &[u64], s: Section) -> u64
     word(words, at)
 }
 
-// The word at which a section says that its first row begins.
+// The word at which a section says that its first row begins. Where the section is a constant the first test falls away.
 pub fn offset(words: &[u64], s: Section) -> u64
     ensures { λ r. ⌜ r ≡ offsetOf (now (words .entry)) s ⌝ }
 {
     let at = s.count;
-    if at < words.len() {
+    if at < FAR as usize {
         return word(words, at + 1);
     }
     0
 }
 
-// How many words n rows take, or the largest number if that is more. Nothing wraps: the largest number is divided instead.
+// How many words n rows take, or as many as no slice has if that is more. Nothing wraps: the largest product is divided instead.
 fn words_of(size: u64, n: u64) -> u64
-    ensures { λ r. ⌜ r ≡ min (size * n) 18446744073709551615 ⌝ }
+    ensures { λ r. ⌜ r ≡ min (size * n) far ⌝ }
 {
     if size == 0 {
         return 0;
     }
-    if LARGEST / size < n {
-        return LARGEST;
+    if FAR / size < n {
+        return FAR;
     }
     size * n
 }
 
-// Word j of row n of a section, or 0 where that lies past the end. No sum wraps: each is tested before it is made.
+// Word j of row n of a section, or 0 where that lies past the end. No sum wraps: what is far past the end is not added.
 pub fn field(words: &[u64], s: Section, n: u64, j: u64) -> u64
     ensures { λ r. ⌜ r ≡ fieldOf (now (words .entry)) s n j ⌝ }
 {
-    let total = words.len() as u64;
     let at = offset(words, s);
-    if total <= at {
+    if words.len() as u64 <= at {
         return 0;
     }
-    let room = total - at;
+    if FAR <= j {
+        return 0;
+    }
     let row = words_of(s.size, n);
-    if room <= row {
-        return 0;
-    }
-    if room - row <= j {
-        return 0;
-    }
-    words[(at + row + j) as usize]
+    word(words, (at + row + j) as usize)
 }
 
 // A string, as a part of the bytes.
