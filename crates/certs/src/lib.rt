@@ -19,13 +19,8 @@ pub fn cert_word(words: &[u64], c: CertRow, j: u64) -> u64
 pub fn cert_range(words: &[u64], c: CertRow, j: u32, s: Section) -> Range
     ensures { λ r. ⌜ r ≡ certRange (now (words .entry)) (c .0) j s ⌝ }
 {
-    let first = j as u64;
-    model::chain::rows_in(
-        words,
-        s,
-        cert_word(words, c, first),
-        cert_word(words, c, first + 1),
-    )
+    let p = table::two_fields(words, CERTS, c.0, j as u64);
+    model::chain::rows_in(words, s, p.first, p.second)
 }
 
 // The number that a word is in two's complement, without a cast that could lose a bit.

@@ -24,10 +24,6 @@ pub fn name_text<'a>(words: &[u64], bytes: &'a [u8], n: NameNo) -> &'a [u8]
 pub fn name_range(words: &[u64], n: NameNo) -> Range
     ensures { λ r. ⌜ r ≡ nameRange (now (words .entry)) (n .0) ⌝ }
 {
-    model::chain::rows_in(
-        words,
-        RDNS,
-        table::field(words, NAMES, n.0, 1),
-        table::field(words, NAMES, n.0, 2),
-    )
+    let p = table::two_fields(words, NAMES, n.0, 1);
+    model::chain::rows_in(words, RDNS, p.first, p.second)
 }

@@ -51,9 +51,9 @@ fn same_as(
 fn same_numbers(words: &[u64], a: AttributeNo, b: AttributeNo) -> bool
     ensures { λ r. ⌜ r ≡ sameNumbers (now (words .entry)) (a .0) (b .0) ⌝ }
 {
-    let oids = table::field(words, ATTRIBUTES, a.0, 0) == table::field(words, ATTRIBUTES, b.0, 0);
-    let values = table::field(words, ATTRIBUTES, a.0, 1) == table::field(words, ATTRIBUTES, b.0, 1);
-    oids & values
+    let x = table::two_fields(words, ATTRIBUTES, a.0, 0);
+    let y = table::two_fields(words, ATTRIBUTES, b.0, 0);
+    (x.first == y.first) & (x.second == y.second)
 }
 
 // Whether two attributes are the same. Where they have the same string numbers, no text has to be looked at.

@@ -34,12 +34,8 @@ pub fn value<'a>(words: &[u64], bytes: &'a [u8], a: AttributeNo) -> &'a [u8]
 pub fn rdn(words: &[u64], n: RdnNo) -> Range
     ensures { λ r. ⌜ r ≡ rdnRange (now (words .entry)) (n .0) ⌝ }
 {
-    model::chain::rows_in(
-        words,
-        ATTRIBUTES,
-        table::field(words, RDNS, n.0, 0),
-        table::field(words, RDNS, n.0, 1),
-    )
+    let p = table::two_fields(words, RDNS, n.0, 0);
+    model::chain::rows_in(words, ATTRIBUTES, p.first, p.second)
 }
 
 pub fn usage(words: &[u64], n: UsageNo) -> u64

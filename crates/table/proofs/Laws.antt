@@ -3,12 +3,13 @@ use Prim.Native.Nat.{ℕ, _+_, _-_, _*_, _/_, _≤_, _<_, min}
 use native.Mathlib.Omega.{arith}
 use native.Mathlib.Decide.{decLt}
 use native.Mathlib.Nat.{add-sub-cancel-left, div-lt-iff-lt-mul, le-div-iff-mul-le, zero-mul, zero-min, min-eq-left}
-use mathlib.Core.Path.{_≡_, refl, sym, _∙_}
+use mathlib.Core.Path.{_≡_, refl, sym, ap, _∙_}
 use mathlib.Core.List.{List, []}
 use lib.ListN.{length, take, drop, length-drop, drop-of-length-le, List·getD-eq-default}
 use lib.Seq.{take-all, take-nil}
-use Rattle.table.specs.Table.{word, part, offsetOf, fieldOf, rangeOf}
+use Rattle.table.specs.Table.{word, part, offsetOf, fieldOf, twoFieldsOf, rangeOf}
 use Rattle.table.specs.declared.Section.{Section}
+use Rattle.table.specs.declared.Two.{Two}
 
 pub word-past : (w : List ℕ) (i : ℕ) → length w ≤ i → 0 ≡ word w i
 unfolding word
@@ -47,18 +48,40 @@ module _ (size n largest : ℕ) where
   pub product-fits : (size ≡ 0 → ⊥) → n ≤ largest / size → size * n ≤ largest
   product-fits s h = omega (arith, le-div-iff-mul-le {k = size} {x = n} {y = largest} (omega arith) .0 h)
 
--- ---- a field; `at` is where the section begins, and `row` what the rows before take
-module _ (w : List ℕ) (s : Section) (n j : ℕ) {at : ℕ} (e : at ≡ offsetOf w s) where
-  pub field-past : length w ≤ at + s .size * n + j → 0 ≡ fieldOf w s n j
+-- ---- where a row begins; `at` is where the section says that it begins, and `most` a number of words that no slice has
+module _ (w : List ℕ) (s : Section) (n : ℕ) {at : ℕ} (e : at ≡ offsetOf w s) (most : ℕ) (l : length w ≤ most) where
+  field-past : (j : ℕ) → length w ≤ at + s .size * n + j → 0 ≡ fieldOf w s n j
   unfolding fieldOf
-  field-past h = word-past w (offsetOf w s + s .size * n + j) (rw (← e) h)
+  field-past j h = word-past w (offsetOf w s + s .size * n + j) (rw (← e) h)
 
-  pub field-at : (most : ℕ) {row r : ℕ} → row ≡ min (s .size * n) most → length w ≤ most → r ≡ word w (at + row + j) → r ≡ fieldOf w s n j
+  pub row-past : length w ≤ at → (j : ℕ) → word w (most + j) ≡ fieldOf w s n j
+  row-past h j = sym (word-past w (most + j) (omega (arith, l))) ∙ field-past j (omega (arith, h))
+
+  pub row-in : {row : ℕ} → row ≡ min (s .size * n) most → (j : ℕ) → word w (at + row + j) ≡ fieldOf w s n j
   unfolding fieldOf
-  field-at most t l q = elim (decLt most (s .size * n)) [
-    | yes h ↦ q ∙ sym (word-past w _ (omega (arith, t, l, h))) ∙ field-past (omega (arith, l, h))
-    | no h ↦ q ∙ rw (e, t, min-eq-left {n = s .size * n} {m = most} (omega arith)) refl
+  row-in t j = elim (decLt most (s .size * n)) [
+    | yes h ↦ sym (word-past w _ (omega (arith, t, l, h))) ∙ field-past j (omega (arith, l, h))
+    | no h ↦ rw (e, t, min-eq-left {n = s .size * n} {m = most} (omega arith)) refl
   ]
+
+-- ---- two words of a row that begins at r
+module _ (w : List ℕ) (s : Section) (n j r : ℕ) (e : (j : ℕ) → word w (r + j) ≡ fieldOf w s n j) where
+  pub two-past : length w ≤ r + j → record { first = 0; second = 0 } ≡ twoFieldsOf w s n j
+  unfolding twoFieldsOf
+  two-past h = rw (← word-past w (r + j) h ∙ e j, ← word-past w (r + (j + 1)) (omega arith) ∙ e (j + 1)) refl
+
+  pub two-in : {x y : ℕ} → x ≡ word w (r + j) → y ≡ word w (r + j + 1) → record { first = x; second = y } ≡ twoFieldsOf w s n j
+  unfolding twoFieldsOf
+  two-in p q = let z : r + j + 1 ≡ r + (j + 1) = omega arith in rw (p, q, z, e j, e (j + 1)) refl
+
+module _ (w : List ℕ) (s : Section) (n j : ℕ) {r : Two} (e : r ≡ twoFieldsOf w s n j) where
+  pub first-is : r .first ≡ fieldOf w s n j
+  unfolding twoFieldsOf
+  first-is = ap (λ (x : Two). x .first) e
+
+  pub second-is : r .second ≡ fieldOf w s n (j + 1)
+  unfolding twoFieldsOf
+  second-is = ap (λ (x : Two). x .second) e
 
 -- ---- a range
 module _ (first n rows : ℕ) where

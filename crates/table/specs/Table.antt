@@ -4,6 +4,7 @@ use mathlib.Core.List.{List}
 use lib.ListN.{getD, take, drop}
 use Rattle.laws.specs.Lists.{rows}
 use Rattle.table.specs.declared.Section.{Section}
+use Rattle.table.specs.declared.Two.{Two}
 use Rattle.table.specs.declared.Range.{Range}
 
 -- the word at a place, counted from the bundle's first word
@@ -29,6 +30,10 @@ offsetOf w s = word w (s .count + 1)
 -- word j of row n
 unfoldable pub fieldOf : List ℕ → Section → ℕ → ℕ → ℕ
 fieldOf w s n j = word w (offsetOf w s + s .size * n + j)
+
+-- words j and j + 1 of row n
+unfoldable pub twoFieldsOf : List ℕ → Section → ℕ → ℕ → Two
+twoFieldsOf w s n j = record { first = fieldOf w s n j; second = fieldOf w s n (j + 1) }
 
 -- S, the strings, in both bundles: the count is word 1 of the header, a row is start and length in the bytes
 abbrev pub strings : Section

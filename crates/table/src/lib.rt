@@ -1,7 +1,7 @@
 // Reads of a bundle's words and bytes that ask nothing of their caller: past the end a word is 0 and a part is cut off.
 ghost use mathlib.Core.Path.{_≡_};
-ghost use Prim.Native.Nat.{_*_, min};
-ghost use Rattle.table.specs.Table.{word as wordOf, far, part, countOf, offsetOf, fieldOf, stringOf, rangeOf};
+ghost use Prim.Native.Nat.{ℕ, _+_, _*_, _≤_, min};
+ghost use Rattle.table.specs.Table.{word as wordOf, far, part, countOf, offsetOf, fieldOf, twoFieldsOf, stringOf, rangeOf};
 
 // The number of a string: a row of S.
 pub struct StringNo(pub u64);
@@ -22,6 +22,12 @@ pub struct Section {
 pub struct Range {
     pub from: u64,
     pub to: u64,
+}
+
+// Two words of a row, one behind the other: a start and a length, a first row and a count.
+pub struct Two {
+    pub first: u64,
+    pub second: u64,
 }
 
 pub const STRINGS: Section = Section { count: 1, size: 2 };
@@ -84,31 +90,53 @@ fn words_of(size: u64, n: u64) -> u64
     size * n
 }
 
-// Word j of row n of a section, or 0 where that lies past the end. No sum wraps: what is far past the end is not added.
-pub fn field(words: &[u64], s: Section, n: u64, j: u64) -> u64
-    ensures { λ r. ⌜ r ≡ fieldOf (now (words .entry)) s n j ⌝ }
+// Where row n of a section begins, or as far as no slice goes: word j of the row is j words behind. No sum wraps: what is far past the end is not added.
+fn row_at(words: &[u64], s: Section, n: u64) -> u64
+    ensures { λ r. ⌜ ((j : ℕ) → wordOf (now (words .entry)) (r + j) ≡ fieldOf (now (words .entry)) s n j) ⌝ }
+    ensures { λ r. ⌜ r ≤ 2 * far ⌝ }
 {
     let at = offset(words, s);
     if words.len() as u64 <= at {
-        return 0;
+        return FAR;
     }
+    at + words_of(s.size, n)
+}
+
+// Word j of row n of a section, or 0 where that lies past the end.
+pub fn field(words: &[u64], s: Section, n: u64, j: u64) -> u64
+    ensures { λ r. ⌜ r ≡ fieldOf (now (words .entry)) s n j ⌝ }
+{
+    let row = row_at(words, s, n);
     if FAR <= j {
         return 0;
     }
-    let row = words_of(s.size, n);
-    word(words, (at + row + j) as usize)
+    word(words, (row + j) as usize)
+}
+
+// Words j and j + 1 of row n of a section.
+pub fn two_fields(words: &[u64], s: Section, n: u64, j: u64) -> Two
+    ensures { λ r. ⌜ r ≡ twoFieldsOf (now (words .entry)) s n j ⌝ }
+{
+    let row = row_at(words, s, n);
+    if FAR <= j {
+        return Two {
+            first: 0,
+            second: 0,
+        };
+    }
+    let at = (row + j) as usize;
+    Two {
+        first: word(words, at),
+        second: word(words, at + 1),
+    }
 }
 
 // A string, as a part of the bytes.
 pub fn string<'a>(words: &[u64], bytes: &'a [u8], s: StringNo) -> &'a [u8]
     ensures { λ r. ⌜ now r ≡ stringOf (now (words .entry)) (now (bytes .entry)) (s .0) ⌝ }
 {
-    let n = s.0;
-    cut(
-        bytes,
-        field(words, STRINGS, n, 0),
-        field(words, STRINGS, n, 1),
-    )
+    let p = two_fields(words, STRINGS, s.0, 0);
+    cut(bytes, p.first, p.second)
 }
 
 // The rows of a range that its section has.

@@ -1,27 +1,23 @@
 use mathlib.Core.Path.{refl}
 use borrow.Author.Needs.{needs}
+use Rattle.table.proofs.Laws.{first-is, second-is}
+use Rattle.model.specs.Sections.{attributes}
 use Rattle.names.specs.Numbers.{sameNumbers}
 use Rattle.names.proofs.same_numbers.Statement.{statement}
 use Rattle.names.proofs.same_numbers.Tie as tie
 
-field-requires : tie.Need-field-requires
-field-requires c κs = search needs
+two-fields-requires : tie.Need-two-fields-requires
+two-fields-requires c κs = search needs
 
-field-requires-2 : tie.Need-field-requires-2
-field-requires-2 c κs = search needs
-
-field-requires-3 : tie.Need-field-requires-3
-field-requires-3 c κs = search needs
-
-field-requires-4 : tie.Need-field-requires-4
-field-requires-4 c κs = search needs
+two-fields-requires-2 : tie.Need-two-fields-requires-2
+two-fields-requires-2 c κs = search needs
 
 returns : tie.Need-returns
 unfolding sameNumbers
 returns c =
-    rw (c .field4 .ensures, c .before .field3 .ensures, c .before .before .field2 .ensures, c .before .before .before .field .ensures)
-    refl
+    let x = c .before .before .before .before .before .two-fields .ensures in
+    let y = c .before .before .before .before .two-fields2 .ensures in
+    rw (first-is _ attributes _ 0 x, second-is _ attributes _ 0 x, first-is _ attributes _ 0 y, second-is _ attributes _ 0 y) refl
 
 pub same-numbers-spec : {M : Type 1} → statement M
-same-numbers-spec =
-    tie.close (tie.spec field-requires field-requires-2 field-requires-3 field-requires-4 returns)
+same-numbers-spec = tie.close (tie.spec two-fields-requires two-fields-requires-2 returns)

@@ -1,35 +1,24 @@
 use native.Mathlib.Omega.{arith}
-use Rattle.table.specs.Table.{far}
-use Rattle.table.proofs.Laws.{field-past, field-at}
+use mathlib.Core.Path.{_∙_}
+use Rattle.table.proofs.Laws.{word-past}
 use borrow.Author.Needs.{needs}
 use Rattle.table.proofs.field.Statement.{statement}
 use Rattle.table.proofs.field.Tie as tie
 
-offset-requires : tie.Need-offset-requires
-offset-requires c κs = search needs
+row-at-requires : tie.Need-row-at-requires
+row-at-requires c κs = search needs
 
 returns : tie.Need-returns
-returns c = field-past _ _ _ _ (c .before .offset .ensures) (omega arith)
-
-returns-2 : tie.Need-returns-2
-returns-2 c = field-past _ _ _ _ (c .before .before .offset .ensures) (omega arith)
-
-words-of-requires : tie.Need-words-of-requires
-words-of-requires c κs = search needs
+returns c = word-past _ _ (omega arith) ∙ c .before .row-at .ensures .0 _
 
 add-word : tie.Need-add-word
 add-word c = omega arith
 
-add-word-2 : tie.Need-add-word-2
-add-word-2 c = omega arith
-
 word-requires : tie.Need-word-requires
 word-requires c κs = search needs
 
-returns-3 : tie.Need-returns-3
-returns-3 c = field-at _ _ _ _ (c .before .before .before .before .offset .ensures) far (c .before .words-of .ensures) (omega arith) (c .word .ensures)
+returns-2 : tie.Need-returns-2
+returns-2 c = c .word .ensures ∙ c .before .before .row-at .ensures .0 _
 
 pub field-spec : {M : Type 1} → statement M
-field-spec =
-    tie.close
-    (tie.spec offset-requires returns returns-2 words-of-requires add-word add-word-2 word-requires returns-3)
+field-spec = tie.close (tie.spec row-at-requires returns add-word word-requires returns-2)
