@@ -22,6 +22,7 @@ NUMBERS = {
     "table::word": {"at": "the place of a word"},
     "table::cut": {"start": "a place in the bytes", "len": "a length"},
     "table::field": {"n": "a row of any section", "j": "the place of a word in a row"},
+    "table::two_fields": {"n": "a row of any section", "j": "the place of a word in a row"},
     "table::clip": {"first": "a row of any section", "n": "a count of rows", "rows": "a count of rows"},
     "model::chain::rows_in": {"first": "a row of any section", "n": "a count of rows"},
     "certs::cert_word": {"j": "the place of a word in a row"},
