@@ -1,4 +1,6 @@
-use mathlib.Core.Path.{refl}
+use mathlib.Core.Path.{ap₂}
+use mathlib.Core.Bool.{_&&_}
+use lib.Dec.{eqb}
 use borrow.Author.Needs.{needs}
 use Rattle.table.proofs.Laws.{first-is, second-is}
 use Rattle.model.specs.Sections.{attributes}
@@ -17,7 +19,7 @@ unfolding sameNumbers
 returns c =
     let x = c .before .before .before .before .before .two-fields .ensures in
     let y = c .before .before .before .before .two-fields2 .ensures in
-    rw (first-is _ attributes _ 0 x, second-is _ attributes _ 0 x, first-is _ attributes _ 0 y, second-is _ attributes _ 0 y) refl
+    ap₂ _&&_ (ap₂ eqb (first-is _ attributes _ 0 x) (first-is _ attributes _ 0 y)) (ap₂ eqb (second-is _ attributes _ 0 x) (second-is _ attributes _ 0 y))
 
 pub same-numbers-spec : {M : Type 1} → statement M
 same-numbers-spec = tie.close (tie.spec two-fields-requires two-fields-requires-2 returns)
