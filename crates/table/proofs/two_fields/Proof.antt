@@ -1,5 +1,4 @@
 use native.Mathlib.Omega.{arith}
-use Rattle.table.specs.Table.{twoFieldsOf}
 use Rattle.table.proofs.Laws.{two-past, two-in}
 use borrow.Author.Needs.{needs}
 use Rattle.table.proofs.two_fields.Statement.{statement}
