@@ -1,4 +1,6 @@
 // Single bytes: their classes, their lower-case form, and whether the bytes of a text are of a class.
+#![tactic(auto)]
+
 pub mod byte_table;
 
 ghost use Rattle.std.specs.Prelude.{◌≡◌, ◌+◌, ◌≤◌, eqb, length, get_or};

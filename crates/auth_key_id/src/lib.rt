@@ -1,4 +1,6 @@
 // What the AKI of a certificate says of the one that issued it (half of rule 13).
+#![tactic(auto)]
+
 ghost use Rattle.std.specs.Prelude.{◌≡◌};
 ghost use Rattle.laws.specs.Lists.{eq_list};
 ghost use Rattle.table.specs.Table.{string_of};

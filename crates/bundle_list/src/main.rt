@@ -6,7 +6,7 @@ use libc::STDOUT_FILENO;
 use sound::{Bundle, Checked, Place};
 
 // The answer to a bundle in numbers: the refusal (0 for sound), the bundle (0 chain, 1 policy), the kind of the place and its word.
-#[derive(Drop)]
+#[derive(Clone, Copy)]
 struct Answer {
     number: u64,
     bundle: u64,
@@ -14,13 +14,13 @@ struct Answer {
     word: u64,
 }
 
-#[derive(Drop)]
+#[derive(Clone, Copy)]
 enum Due {
     Is(Answer),
     Cut,
 }
 
-#[derive(Drop)]
+#[derive(Clone, Copy)]
 enum Turn {
     Agreed,
     Differed,

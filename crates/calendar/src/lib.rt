@@ -1,9 +1,11 @@
 // Chrome's calendar.
+#![tactic(auto)]
+
 ghost use Rattle.std.specs.Prelude.{◌≡◌};
 ghost use Rattle.calendar.specs.Spans.{span_valid};
 
 // How long a leaf may last, by the second in which it begins.
-#[derive(Drop)]
+#[derive(Clone, Copy)]
 pub struct Calendar;
 
 impl Calendar {

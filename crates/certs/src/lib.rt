@@ -1,4 +1,6 @@
 // The words of a certificate, a row of C. Each reader asks nothing of the bundle.
+#![tactic(auto)]
+
 pub mod row;
 
 ghost use Rattle.std.specs.Prelude.{◌≡◌};

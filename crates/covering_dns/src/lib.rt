@@ -10,14 +10,14 @@ use sans::Kind;
 use table::{Range, STRINGS, StringNo};
 
 // How a DNS constraint covers a name: both lowered, or the constraint cleaned and the name lowered.
-#[derive(Drop)]
+#[derive(Clone, Copy)]
 pub enum Covering {
     Lowered,
     Cleaned,
 }
 
 // Where names and strings begin, the name before which a loop ends, and how many strings there are.
-#[derive(Drop)]
+#[derive(Clone, Copy)]
 struct Rows {
     names: u64,
     strings: u64,

@@ -1,9 +1,11 @@
 // Reads of a data file: words of eight bytes each, and bytes. No contract can say what a file holds: these say what a read may change, and what it answers without one.
+#![tactic(auto)]
+
 ghost use Rattle.std.specs.Prelude.{◌+◌, ◌*◌, ◌≤◌, ◌<◌, ◌≡◌, true, get_or, take};
 ghost use Rattle.data_file.specs.DataFile.{word_of, Filled, Begins, BundleRead};
 
 // What a read got: all that was asked for; nothing, since the file had ended; or less, since it ended on the way or there was no room.
-#[derive(Drop)]
+#[derive(Clone, Copy)]
 pub enum Got {
     All,
     Nothing,
@@ -11,14 +13,14 @@ pub enum Got {
 }
 
 // How many words and bytes a bundle has.
-#[derive(Drop)]
+#[derive(Clone, Copy)]
 pub struct Size {
     pub words: usize,
     pub bytes: usize,
 }
 
 // A bundle that was read, by its size; or that there was none, since the file had ended; or that it is cut off or too large.
-#[derive(Drop)]
+#[derive(Clone, Copy)]
 pub enum Read {
     Is(Size),
     Nothing,
@@ -26,7 +28,7 @@ pub enum Read {
 }
 
 // The next word of a file, or how the file ended.
-#[derive(Drop)]
+#[derive(Clone, Copy)]
 enum Next {
     Is(u64),
     End,

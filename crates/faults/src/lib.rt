@@ -1,4 +1,6 @@
 // A report of broken rules: its entries, what a writer puts into the words lent to it, and what it hands back. Nothing here knows a rule.
+#![tactic(auto)]
+
 ghost use Rattle.std.specs.Prelude.{◌≡◌, [], ◌∷◌, ◌+◌, ◌-◌};
 ghost use Rattle.faults.specs.Report.{Wrote, one, counted, joined as joinedOf, earlier as earlier_of, first_word, second_word};
 ghost use Rattle.faults.specs.Places.{short_entry};
@@ -15,7 +17,7 @@ pub const FEWEST: u32 = 2;
 const MOST: usize = 18446744073709551615;
 
 // Where a rule is broken: at no certificate, at one, or between two.
-#[derive(Drop)]
+#[derive(Clone, Copy)]
 pub enum Spot {
     Nothing,
     Certificate(CertPos),
@@ -23,21 +25,21 @@ pub enum Spot {
 }
 
 // A rule, and where it is broken.
-#[derive(Drop)]
+#[derive(Clone, Copy)]
 pub struct Entry {
     pub rule: RuleNo,
     pub spot: Spot,
 }
 
 // The first entry, or that there is none.
-#[derive(Drop)]
+#[derive(Clone, Copy)]
 pub enum First {
     Clear,
     Broken(Entry),
 }
 
 // What a writer hands back: how many entries there are, how many of them fitted, and the first, which may not have fitted.
-#[derive(Drop)]
+#[derive(Clone, Copy)]
 pub struct Tally {
     pub total: usize,
     pub written: usize,
@@ -45,7 +47,7 @@ pub struct Tally {
 }
 
 // Where a rule is asked, of n certificates. Of the numbers that a case holds, the first is where i starts, the second how many at the root's end are left out.
-#[derive(Drop)]
+#[derive(Clone, Copy)]
 pub enum Places {
     Nowhere,
     Leaf,

@@ -1,4 +1,6 @@
 // The rows of G of a chain bundle, field by field. Each reader asks nothing of the bundle.
+#![tactic(auto)]
+
 ghost use Rattle.std.specs.Prelude.{◌≡◌};
 ghost use Rattle.model.specs.Decode.{kind_at, name_text, name_range};
 

@@ -13,7 +13,7 @@ use sound::{Bundle, Checked, Place};
 use table::RuleNo;
 
 // What the judge says. Every answer holds its place. A broken rule comes with the total of entries and how many of them were written, a refusal with the bundle.
-#[derive(Drop)]
+#[derive(Clone, Copy)]
 pub enum Answer {
     Accepted(Place),
     Broken(RuleNo, Place, usize, usize),

@@ -1,4 +1,6 @@
 // Rule 7: the AKI and the SKI of one certificate.
+#![tactic(auto)]
+
 ghost use Rattle.std.specs.Prelude.{◌≡◌};
 ghost use Rattle.model.specs.Decode.{cert_at};
 ghost use Rattle.key_ids.specs.KeyIds.{ids_not_critical, has_key_ids, has_no_parts, check_auth_subject_key_id};

@@ -1,1 +1,3 @@
 // Laws only: definitions in specs/, what is proved of them in proofs/.
+#![tactic(auto)]
+

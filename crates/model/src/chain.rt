@@ -23,20 +23,20 @@ pub const HOST: usize = 13;
 // The word of the header that holds the time.
 pub const NOW: usize = 15;
 
-#[derive(Drop)]
+#[derive(Clone, Copy)]
 pub struct AttributeNo(pub u64);
 
-#[derive(Drop)]
+#[derive(Clone, Copy)]
 pub struct RdnNo(pub u64);
 
-#[derive(Drop)]
+#[derive(Clone, Copy)]
 pub struct NameNo(pub u64);
 
-#[derive(Drop)]
+#[derive(Clone, Copy)]
 pub struct UsageNo(pub u64);
 
 // A row of C. A position in the chain is another number, though today the two are equal.
-#[derive(Drop)]
+#[derive(Clone, Copy)]
 pub struct CertRow(pub u64);
 
 // The row of the certificate at a position.

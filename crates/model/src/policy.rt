@@ -10,11 +10,11 @@ pub const ENTRIES: Section = Section { count: 3, size: 1 };
 pub const LISTS_FROM: usize = 5;
 
 // The number of a list.
-#[derive(Drop)]
+#[derive(Clone, Copy)]
 pub struct ListNo(pub usize);
 
 // A row of L.
-#[derive(Drop)]
+#[derive(Clone, Copy)]
 pub struct EntryNo(pub u64);
 
 pub fn entry<'a>(words: &[u64], bytes: &'a [u8], n: EntryNo) -> &'a [u8]

@@ -1,4 +1,6 @@
 // Distinguished names, on the rows of a bundle. Each loop stops at the first row that decides, and nothing is copied.
+#![tactic(auto)]
+
 ghost use Rattle.std.specs.Prelude.{◌≡◌, ◌-◌};
 ghost use Rattle.laws.specs.Lists.{all};
 ghost use Rattle.model.specs.Decode.{oid_at, attribute_at, rdn_at, name_in};
@@ -9,7 +11,7 @@ use model::chain::{ATTRIBUTES, AttributeNo, RdnNo};
 use table::Range;
 
 // How values are compared: as they stand, or in normal form.
-#[derive(Drop)]
+#[derive(Clone, Copy)]
 pub enum Values {
     AsGiven,
     Normalised,

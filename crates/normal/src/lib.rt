@@ -1,4 +1,6 @@
 // Texts compared in normal form, byte by byte, without a buffer.
+#![tactic(auto)]
+
 ghost use Rattle.std.specs.Prelude.{◌≡◌, ◌≤◌, not, length};
 ghost use Rattle.laws.specs.Lists.{least};
 ghost use Rattle.ascii.specs.Bytes.{is_space, whole_table};
@@ -6,7 +8,7 @@ ghost use Rattle.normal.specs.Normal.{same_normal};
 ghost use Rattle.normal.specs.Walk.{no_space_at, Advanced};
 
 // A step through a normal form: its end, or a byte of it and where the rest begins.
-#[derive(Drop)]
+#[derive(Clone, Copy)]
 struct Step {
     end: bool,
     byte: u8,

@@ -1,4 +1,6 @@
 // Where each policy asks a rule.
+#![tactic(auto)]
+
 ghost use Rattle.std.specs.Prelude.{◌≡◌};
 ghost use Rattle.policies.specs.Tables.{open_ssl_places, chrome_places, places_of};
 
@@ -6,7 +8,7 @@ use faults::Places;
 use table::{CertPos, RuleNo};
 
 // Whose rules are asked.
-#[derive(Drop)]
+#[derive(Clone, Copy)]
 pub enum Policy {
     OpenSsl,
     Chrome,

@@ -1,4 +1,6 @@
 // Rule 8: what the key may be used for.
+#![tactic(auto)]
+
 ghost use Rattle.std.specs.Prelude.{◌≡◌};
 ghost use Rattle.laws.specs.Lists.{any};
 ghost use Rattle.table.specs.Table.{over};
@@ -23,7 +25,7 @@ const KEY_ENCIPHERMENT: u64 = 4;
 const KEY_AGREEMENT: u64 = 16;
 
 // The usages that serve: ServerAuth alone, or Any too.
-#[derive(Drop)]
+#[derive(Clone, Copy)]
 pub enum Serving {
     Server,
     ServerOrAny,

@@ -13,7 +13,7 @@ use sections::{CHAIN_HEADER, is_misplaced};
 use table::STRINGS;
 
 // How many rows the sections have that a certificate points into.
-#[derive(Drop)]
+#[derive(Clone, Copy)]
 struct Counts {
     strings: u64,
     rdns: u64,

@@ -16,7 +16,7 @@ const UNWRITTEN_WORD: u64 = 2779096485;
 const NO_COUNT: usize = 27;
 
 // A case that agreed says where it is counted.
-#[derive(Drop)]
+#[derive(Clone, Copy)]
 enum Turn {
     Agreed(usize),
     End,

@@ -1,4 +1,6 @@
 // What can be wrong with a word of a row of a bundle. The public tests ask nothing of their caller.
+#![tactic(auto)]
+
 ghost use Rattle.std.specs.Prelude.{◌≡◌, ◌+◌, ◌-◌, ◌≤◌, min, ◌&&◌, eqb, ltb, length};
 ghost use Rattle.table.specs.Table.{word as word_of};
 ghost use Rattle.row_tests.specs.Wrong.{no_string, no_optional, no_range, over, there, high_string, string_out, name_out, some_part, extensions_wrong, wrong};
@@ -7,7 +9,7 @@ use model::chain::RDNS;
 use table::{STRINGS, Section, StringNo, word};
 
 // What is looked for in a word of a row. The first number of a part's test is the word that marks the part.
-#[derive(Drop)]
+#[derive(Clone, Copy)]
 pub enum Test {
     StringOut,
     NumberOut,

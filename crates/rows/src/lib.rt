@@ -1,4 +1,6 @@
 // The rows of A, R and U of a chain bundle, field by field. Each reader asks nothing of the bundle.
+#![tactic(auto)]
+
 ghost use Rattle.std.specs.Prelude.{◌≡◌};
 ghost use Rattle.model.specs.Decode.{oid_at, value_at, rdn_range, usage_word};
 

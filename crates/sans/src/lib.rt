@@ -12,7 +12,7 @@ use table::Range;
 const KIND: u64 = 0;
 
 // The kinds of names that constraints can speak of.
-#[derive(Drop)]
+#[derive(Clone, Copy)]
 pub enum Kind {
     Dns,
     Directory,

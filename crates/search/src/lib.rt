@@ -13,7 +13,7 @@ use sections::{Found, earlier, is_misplaced};
 use table::{Section, word};
 
 // The rows that a line speaks of: the header, those of a section, or those of L in the range at a word of the header.
-#[derive(Drop)]
+#[derive(Clone, Copy)]
 pub enum Block {
     Header,
     All(Section),
@@ -21,7 +21,7 @@ pub enum Block {
 }
 
 // A line of the tables: a refusal's number, the rows, the word of the row, and what may be wrong with it.
-#[derive(Drop)]
+#[derive(Clone, Copy)]
 pub struct Line {
     pub number: u64,
     pub block: Block,
@@ -30,7 +30,7 @@ pub struct Line {
 }
 
 // Rows of words: where the first begins, how long they are, how many.
-#[derive(Drop)]
+#[derive(Clone, Copy)]
 pub struct Rows {
     pub at: usize,
     pub size: usize,

@@ -1,4 +1,6 @@
 // Where the sections of the two bundles may lie, and the first that lies elsewhere. The public functions ask nothing of their caller.
+#![tactic(auto)]
+
 ghost use Rattle.std.specs.Prelude.{◌≡◌, ◌&&◌, ◌||◌, eqb, ltb};
 ghost use Rattle.model.specs.Sections.{chain_header, policy_header};
 ghost use Rattle.sections.specs.Found.{earlier_of, found_each};
@@ -15,7 +17,7 @@ pub const CHAIN_HEADER: usize = 16;
 pub const POLICY_HEADER: usize = 23;
 
 // The first fault so far: a refusal's number and its word.
-#[derive(Drop)]
+#[derive(Clone, Copy)]
 pub enum Found {
     Clear,
     At(u64, usize),

@@ -19,14 +19,14 @@ const MOST_CERTS: u64 = 16;
 const EDITION: u64 = 1;
 
 // Which bundle an answer speaks of.
-#[derive(Drop)]
+#[derive(Clone, Copy)]
 pub enum Bundle {
     Chain,
     Policy,
 }
 
 // Where something is wrong: nothing, a word, a certificate or a pair.
-#[derive(Drop)]
+#[derive(Clone, Copy)]
 pub enum Place {
     Nothing,
     Word(usize),
@@ -35,7 +35,7 @@ pub enum Place {
 }
 
 // A bundle is sound, or refused by a number.
-#[derive(Drop)]
+#[derive(Clone, Copy)]
 pub enum Checked {
     Sound,
     Refused(u64, Bundle, Place),

@@ -1,35 +1,37 @@
 // Reads of a bundle's words and bytes that ask nothing of their caller: past the end a word is 0 and a part is cut off.
+#![tactic(auto)]
+
 ghost use Rattle.std.specs.Prelude.{◌≡◌, ℕ, ◌+◌, ◌*◌, ◌≤◌, min};
 ghost use Rattle.table.specs.Table.{word as word_of, far, part, count_of, offset_of, field_of, two_fields_of, string_of, range_of};
 
 // The number of a string: a row of S.
-#[derive(Drop)]
+#[derive(Clone, Copy)]
 pub struct StringNo(pub u64);
 
 // The position of a certificate in the chain: 0 is the leaf. As wide as a word of a report.
-#[derive(Drop)]
+#[derive(Clone, Copy)]
 pub struct CertPos(pub u32);
 
 // The number of a rule.
-#[derive(Drop)]
+#[derive(Clone, Copy)]
 pub struct RuleNo(pub u32);
 
 // Where a section stands: the word of the header that holds its count (the next holds its offset), and the words of a row.
-#[derive(Drop)]
+#[derive(Clone, Copy)]
 pub struct Section {
     pub count: usize,
     pub size: u64,
 }
 
 // Rows of one section, from the first up to but not including the last.
-#[derive(Drop)]
+#[derive(Clone, Copy)]
 pub struct Range {
     pub from: u64,
     pub to: u64,
 }
 
 // Two words of a row, one behind the other: a start and a length, a first row and a count.
-#[derive(Drop)]
+#[derive(Clone, Copy)]
 pub struct Two {
     pub first: u64,
     pub second: u64,

@@ -1,11 +1,13 @@
 // Bytes as text. Nothing is copied: a text is a part of the bytes that somebody lends.
+#![tactic(auto)]
+
 ghost use Rattle.std.specs.Prelude.{◌≡◌, eqb, length};
 ghost use Rattle.laws.specs.Lists.{eq_list};
 ghost use Rattle.ascii.specs.Bytes.{lower_byte};
 ghost use Rattle.text.specs.Texts.{taken_byte, taken, lowered, starts_with, ends_with, match_dns_name};
 
 // How a pattern's letters are taken: as they stand, or lowered.
-#[derive(Drop)]
+#[derive(Clone, Copy)]
 pub enum Letters {
     AsGiven,
     Lowered,

@@ -1,18 +1,20 @@
 // The table view: the lent words of a bundle together with the rows that are still to be read. A function over a view only takes it apart and leaves the work to one with plain parameters.
+#![tactic(auto)]
+
 ghost use Rattle.std.specs.Prelude.{◌≡◌};
 ghost use Rattle.view.specs.Shown.{rows_of, view_of, head_of, rest_of, some_word};
 
 use table::{Range, Section};
 
 // Rows of a section, from the first that is still to be read.
-#[derive(Drop)]
+#[derive(Clone, Copy)]
 pub struct Rows {
     pub section: Section,
     pub range: Range,
 }
 
 // The lent words, and the place in them: the view stands at the first of its rows.
-#[derive(Drop)]
+#[derive(Clone, Copy)]
 pub struct View<'a> {
     pub words: &'a [u64],
     pub rows: Rows,

@@ -7,7 +7,7 @@ use libc::STDOUT_FILENO;
 // What stands in the lent report before a judgement, so that the output shows which words were written.
 const UNWRITTEN: u32 = 9;
 
-#[derive(Drop)]
+#[derive(Clone, Copy)]
 enum Turn {
     Judged,
     End,

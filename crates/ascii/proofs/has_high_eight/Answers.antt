@@ -1,0 +1,6 @@
+use borrow.Author.Rules.{rules}
+use Rattle.ascii.proofs.Blocks.{any_eight}
+use Rattle.ascii.proofs.has_high_eight.Goals as goal
+
+pub returns : goal.returns
+returns c = any_eight _ _

@@ -1,0 +1,7 @@
+use Rattle.model.specs.Decode.{kind_at}
+use borrow.Author.Rules.{rules}
+use Rattle.general_names.proofs.kind.Goals as goal
+
+pub returns : goal.returns
+unfolding kind_at
+returns c = c.field.ensures

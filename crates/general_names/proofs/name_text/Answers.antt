@@ -1,0 +1,7 @@
+use Rattle.model.specs.Decode.{name_text}
+use borrow.Author.Rules.{rules}
+use Rattle.general_names.proofs.name_text.Goals as goal
+
+pub returns : goal.returns
+unfolding name_text
+returns c = rw (← c.field.ensures) c.string.ensures

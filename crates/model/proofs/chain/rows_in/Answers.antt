@@ -1,0 +1,7 @@
+use Rattle.model.specs.Decode.{rows_in}
+use borrow.Author.Rules.{rules}
+use Rattle.model.proofs.chain.rows_in.Goals as goal
+
+pub returns : goal.returns
+unfolding rows_in
+returns c = rw (← c.count.ensures) c.clip.ensures

@@ -1,0 +1,7 @@
+use Rattle.model.specs.Decode.{entry_at}
+use borrow.Author.Rules.{rules}
+use Rattle.model.proofs.policy.entry.Goals as goal
+
+pub returns : goal.returns
+unfolding entry_at
+returns c = rw (← c.field.ensures) c.string.ensures

@@ -1,0 +1,6 @@
+use Rattle.row_tests.proofs.Reasons.{by_start}
+use borrow.Author.Rules.{rules}
+use Rattle.row_tests.proofs.is_wrong.Goals as goal
+
+pub returns : goal.returns
+returns c = let a = c.args in by_start a.t a.words.now a.bytes.now a.q a.j c.within.ensures c.is_wrong_within.ensures

@@ -1,0 +1,12 @@
+use Rattle.row_tests.specs.Wrong.{string_out}
+use Rattle.row_tests.proofs.Reasons.{words_past}
+use borrow.Author.Rules.{rules}
+use Rattle.row_tests.proofs.string_out.Goals as goal
+
+pub returns-then-words-p : goal.returns-then-words-p
+unfolding string_out
+returns-then-words-p c = words_past _ _ _ c.if-words-p.true
+
+pub returns : goal.returns
+unfolding string_out
+returns c = rw (← c.word.ensures, ← c.word-2.ensures) c.ends_past.ensures

@@ -1,0 +1,7 @@
+use Rattle.model.specs.Decode.{oid_at}
+use borrow.Author.Rules.{rules}
+use Rattle.rows.proofs.oid.Goals as goal
+
+pub returns : goal.returns
+unfolding oid_at
+returns c = rw (← c.field.ensures) c.string.ensures

@@ -1,0 +1,7 @@
+use Rattle.model.specs.Decode.{usage_word}
+use borrow.Author.Rules.{rules}
+use Rattle.rows.proofs.usage.Goals as goal
+
+pub returns : goal.returns
+unfolding usage_word
+returns c = c.field.ensures
