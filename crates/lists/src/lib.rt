@@ -1,4 +1,6 @@
 // The lists of a policy bundle: whether one holds a text, and whether an entry of one matches a name.
+#![tactic(auto)]
+
 ghost use Rattle.std.specs.Prelude.{◌≡◌};
 ghost use Rattle.laws.specs.Lists.{eq_list};
 ghost use Rattle.text.specs.Texts.{lowered};

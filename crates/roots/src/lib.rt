@@ -1,4 +1,6 @@
 // Rules 17 to 20: what Chrome's calendar and the lists of a policy say of certificates. A module a rule or two.
+#![tactic(auto)]
+
 pub mod duration;
 pub mod fingerprints;
 pub mod symantec;

@@ -9,4 +9,4 @@ pub returns-in-1 : goal.returns-in-1
 returns-in-1 c = name_directory _ _ c.word-kind.ensures c.in-1.is c.no_range.ensures
 
 pub returns-in_default : goal.returns-in_default
-returns-in_default c = name_unread _ _ c.word-kind.ensures c.in_default-own.rest.0.1 c.in_default-own.rest.1
+returns-in_default c = name_unread _ _ c.word-kind.ensures c.in_default.in_default-own.rest.0.1 c.in_default.in_default-own.rest.1

@@ -1,0 +1,23 @@
+-- Written by tools/row_loops.py. Assumes nothing.
+use Prim.Native.Nat.{◌-◌}
+use mathlib.Core.Path.{◌≡◌, refl}
+use borrow.Author.Rules.{rules}
+use Rattle.laws.specs.Lists.{rows, any}
+use Rattle.laws.specs.Lists.{eq_list}
+use Rattle.model.specs.Decode.{entry_at}
+use Rattle.lists.specs.Listed.{listed}
+use Rattle.laws.proofs.Loops.{any_here, any_next, any_none}
+use Rattle.lists.proofs.any_is.Goals as goal
+
+pub loop-i-init : goal.loop-i-init
+unfolding listed
+loop-i-init c = refl
+
+pub returns-then-entry_is : goal.returns-then-entry_is
+returns-then-entry_is c = any_here _ _ _ _ c.loop-i-test.true c.entry_is.ensures c.if-entry_is.true c.loop-i.invariant
+
+pub loop-i-preserved : goal.loop-i-preserved
+loop-i-preserved c = any_next _ _ _ _ c.loop-i-test.true c.entry_is.ensures c.if-entry_is.false c.loop-i.invariant
+
+pub returns : goal.returns
+returns c = any_none _ _ _ _ c.loop-i-test.false c.loop-i.invariant

@@ -1,0 +1,24 @@
+-- Written by tools/row_loops.py. Assumes nothing.
+use Prim.Native.Nat.{◌-◌}
+use mathlib.Core.Path.{◌≡◌, refl}
+use borrow.Author.Rules.{rules}
+use Rattle.laws.specs.Lists.{rows, any}
+use Rattle.text.specs.Texts.{lowered}
+use Rattle.patterns.specs.Patterns.{match_name}
+use Rattle.model.specs.Decode.{entry_at}
+use Rattle.lists.specs.Listed.{matched}
+use Rattle.laws.proofs.Loops.{any_here, any_next, any_none}
+use Rattle.lists.proofs.any_matches.Goals as goal
+
+pub loop-i-init : goal.loop-i-init
+unfolding matched
+loop-i-init c = refl
+
+pub returns-then-entry_matches : goal.returns-then-entry_matches
+returns-then-entry_matches c = any_here _ _ _ _ c.loop-i-test.true c.entry_matches.ensures c.if-entry_matches.true c.loop-i.invariant
+
+pub loop-i-preserved : goal.loop-i-preserved
+loop-i-preserved c = any_next _ _ _ _ c.loop-i-test.true c.entry_matches.ensures c.if-entry_matches.false c.loop-i.invariant
+
+pub returns : goal.returns
+returns c = any_none _ _ _ _ c.loop-i-test.false c.loop-i.invariant

@@ -1,0 +1,21 @@
+-- Written by tools/row_loops.py. Assumes nothing.
+use Prim.Native.Nat.{◌-◌}
+use mathlib.Core.Path.{◌≡◌, refl}
+use borrow.Author.Rules.{rules}
+use Rattle.laws.specs.Lists.{rows, any}
+use Rattle.model.specs.Decode.{usage_at}
+use Rattle.purpose.specs.Purpose.{serves}
+use Rattle.laws.proofs.Loops.{any_here, any_next, any_none}
+use Rattle.purpose.proofs.any_serves.Goals as goal
+
+pub loop-i-init : goal.loop-i-init
+loop-i-init c = refl
+
+pub returns-then-usage_serves : goal.returns-then-usage_serves
+returns-then-usage_serves c = any_here _ _ _ _ c.loop-i-test.true c.usage_serves.ensures c.if-usage_serves.true c.loop-i.invariant
+
+pub loop-i-preserved : goal.loop-i-preserved
+loop-i-preserved c = any_next _ _ _ _ c.loop-i-test.true c.usage_serves.ensures c.if-usage_serves.false c.loop-i.invariant
+
+pub returns : goal.returns
+returns c = any_none _ _ _ _ c.loop-i-test.false c.loop-i.invariant

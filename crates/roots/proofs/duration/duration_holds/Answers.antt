@@ -1,0 +1,9 @@
+use Rattle.roots.proofs.Laws.{lasts_well, lasts_long}
+use borrow.Author.Rules.{rules}
+use Rattle.roots.proofs.duration.duration_holds.Goals as goal
+
+pub returns-then-leaf_duration_valid : goal.returns-then-leaf_duration_valid
+returns-then-leaf_duration_valid c = lasts_well _ _ _ c.leaf_duration_valid.ensures c.if-leaf_duration_valid.true
+
+pub returns : goal.returns
+returns c = lasts_long _ _ _ c.leaf_duration_valid.ensures c.if-leaf_duration_valid.false c.is_known_root.ensures

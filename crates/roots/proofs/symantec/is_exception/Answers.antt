@@ -1,0 +1,7 @@
+use Rattle.roots.specs.Symantec.{is_exception}
+use borrow.Author.Rules.{rules}
+use Rattle.roots.proofs.symantec.is_exception.Goals as goal
+
+pub returns : goal.returns
+unfolding is_exception
+returns c = rw (← c.fingerprint.ensures) c.in_list.ensures
