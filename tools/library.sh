@@ -3,7 +3,7 @@
 set -eu
 cd "$(dirname "$0")/.."
 library=target/native/libudrasmil.a
-if [ -f "$library" ] && [ -z "$(find crates crates.txt tools/native.sh -newer "$library" -print -quit)" ]; then
+if [ -f "$library" ] && [ -z "$(find crates crates.txt tools/native.sh -name out -prune -o -newer "$library" -print -quit)" ]; then
     exit
 fi
 command -v rt >/dev/null || {

@@ -1,3 +1,2 @@
 // Laws only: definitions in specs/, what is proved of them in proofs/.
 #![tactic(auto)]
-

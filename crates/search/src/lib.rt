@@ -1,4 +1,6 @@
 // The search for the first fault of a line. The public function asks nothing of its caller.
+#![tactic(auto)]
+
 ghost use Rattle.std.specs.Prelude.{◌≡◌, ◌+◌, ◌≤◌, length};
 ghost use Rattle.laws.specs.Lists.{least};
 ghost use Rattle.table.specs.Table.{word as word_of};

@@ -1,4 +1,4 @@
-// The C boundary (include/udrasmil.h): the judges for callers outside. No logic of its own: an answer is written as eight words.
+// The boundary to callers outside: the judges, and their answers as eight words. No logic of its own. The crate udrasmil_c exports both to C (include/udrasmil.h).
 ghost use Rattle.std.specs.Prelude.{◌≡◌, [], ◌∷◌};
 ghost use Rattle.sound.specs.Answer.{bundle_number, place_kind, place_first, place_second};
 ghost use Rattle.judge.specs.Judged.{answer_words};
@@ -90,8 +90,7 @@ fn put_answer(a: Answer, answer: &mut [u64; 8])
     }
 }
 
-#[unsafe(no_mangle)]
-pub extern "C" fn udrasmil_judge_openssl(
+pub fn udrasmil_judge_openssl(
     words: &[u64],
     bytes: &[u8],
     report: &mut [u32],
@@ -103,8 +102,7 @@ pub extern "C" fn udrasmil_judge_openssl(
     put_answer(a, answer);
 }
 
-#[unsafe(no_mangle)]
-pub extern "C" fn udrasmil_judge_chrome(
+pub fn udrasmil_judge_chrome(
     words: &[u64],
     bytes: &[u8],
     pwords: &[u64],
