@@ -1,4 +1,6 @@
 // Whether some constraint of a range covers a directory name or an IP address. The name is fetched before, and each constraint is compared with it in place.
+#![tactic(auto)]
+
 ghost use Rattle.std.specs.Prelude.{◌≡◌};
 ghost use Rattle.laws.specs.Lists.{any};
 ghost use Rattle.model.specs.Decode.{name_in, general_at, generals_in};

@@ -1,4 +1,6 @@
 // Whether some constraint of a range covers a DNS name. Hundreds of names may meet hundreds of constraints, so that whether the rows lie inside the words is tested once for a name.
+#![tactic(auto)]
+
 ghost use Rattle.std.specs.Prelude.{◌≡◌, true, ◌+◌, ◌*◌, ◌≤◌, ◌<◌};
 ghost use Rattle.laws.specs.Lists.{any, rows};
 ghost use Rattle.model.specs.Decode.{kind_at, name_text, general_at, generals_in};

@@ -1,4 +1,6 @@
 // Rule 15 of OpenSSL. The host is fetched once, and each name is compared with it in place.
+#![tactic(auto)]
+
 ghost use Rattle.std.specs.Prelude.{◌≡◌};
 ghost use Rattle.laws.specs.Lists.{any};
 ghost use Rattle.laws.specs.Optional.{there_and};

@@ -1,4 +1,6 @@
 // Rule 15 of Chrome. The host is fetched and cleaned once, and each name is compared with it in place.
+#![tactic(auto)]
+
 ghost use Rattle.std.specs.Prelude.{◌≡◌};
 ghost use Rattle.laws.specs.Lists.{any};
 ghost use Rattle.laws.specs.Optional.{there_and};

@@ -1,4 +1,6 @@
 // Rule 13: whether one certificate was issued by another.
+#![tactic(auto)]
+
 ghost use Rattle.std.specs.Prelude.{◌≡◌};
 ghost use Rattle.model.specs.Decode.{cert_at};
 ghost use Rattle.names.specs.Names.{same_dn};

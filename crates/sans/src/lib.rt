@@ -1,4 +1,6 @@
 // What a certificate is called: names by their kind, the DNS names of its SAN, the common names of its subject.
+#![tactic(auto)]
+
 ghost use Rattle.std.specs.Prelude.{◌≡◌};
 ghost use Rattle.laws.specs.Lists.{any};
 ghost use Rattle.model.specs.Decode.{attribute_at, general_at, generals_in, cert_at};

@@ -1,0 +1,22 @@
+-- Written by tools/row_loops.py. Assumes nothing.
+use Prim.Native.Nat.{◌-◌}
+use mathlib.Core.Path.{◌≡◌, refl}
+use borrow.Author.Rules.{rules}
+use Rattle.laws.specs.Lists.{rows, any}
+use Rattle.model.specs.Decode.{name_in, general_at, generals_in}
+use Rattle.covering.specs.Covers.{over_directory}
+use Rattle.laws.proofs.Loops.{any_here, any_next, any_none}
+use Rattle.covering.proofs.any_directory.Goals as goal
+
+pub loop-i-init : goal.loop-i-init
+unfolding generals_in
+loop-i-init c = refl
+
+pub returns-then-directory_over : goal.returns-then-directory_over
+returns-then-directory_over c = any_here _ _ _ _ c.loop-i-test.true c.directory_over.ensures c.if-directory_over.true c.loop-i.invariant
+
+pub loop-i-preserved : goal.loop-i-preserved
+loop-i-preserved c = any_next _ _ _ _ c.loop-i-test.true c.directory_over.ensures c.if-directory_over.false c.loop-i.invariant
+
+pub returns : goal.returns
+returns c = any_none _ _ _ _ c.loop-i-test.false c.loop-i.invariant

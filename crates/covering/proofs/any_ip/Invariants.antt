@@ -1,0 +1,15 @@
+-- Written by tools/row_loops.py. Assumes nothing.
+use Prim.Native.Nat.{◌-◌}
+use mathlib.Core.Path.{◌≡◌, refl}
+use borrow.Author.Rules.{rules}
+use Rattle.laws.specs.Lists.{rows, any}
+use Rattle.model.specs.Decode.{general_at, generals_in}
+use Rattle.covering.specs.Covers.{over_ip}
+use Rattle.laws.proofs.Loops.{any_here, any_next, any_none}
+use Rattle.covering.proofs.any_ip.Given as goal
+
+abbrev pub invariant-loop-i : goal.invariant-loop-i
+invariant-loop-i l = any (over_ip l.address) (generals_in l.words l.bytes (record { from = l.initial.i; to = l.e })) ≡ any (over_ip l.address) (rows (general_at l.words l.bytes) l.i l.e)
+
+abbrev pub decreases-loop-i : goal.decreases-loop-i
+decreases-loop-i l = l.e - l.i

@@ -1,0 +1,21 @@
+-- Written by tools/row_loops.py. Assumes nothing.
+use Prim.Native.Nat.{◌-◌}
+use mathlib.Core.Path.{◌≡◌, refl}
+use borrow.Author.Rules.{rules}
+use Rattle.laws.specs.Lists.{rows, any}
+use Rattle.model.specs.Decode.{general_at}
+use Rattle.covering_dns.specs.Covers.{over_dns}
+use Rattle.laws.proofs.Loops.{any_here, any_next, any_none}
+use Rattle.covering_dns.proofs.any_in.Goals as goal
+
+pub loop-i-init : goal.loop-i-init
+loop-i-init c = refl
+
+pub returns-then-covers_in : goal.returns-then-covers_in
+returns-then-covers_in c = any_here _ _ _ _ c.loop-i-test.true c.covers_in.ensures c.if-covers_in.true c.loop-i.invariant
+
+pub loop-i-preserved : goal.loop-i-preserved
+loop-i-preserved c = any_next _ _ _ _ c.loop-i-test.true c.covers_in.ensures c.if-covers_in.false c.loop-i.invariant
+
+pub returns : goal.returns
+returns c = any_none _ _ _ _ c.loop-i-test.false c.loop-i.invariant

@@ -1,0 +1,6 @@
+use Rattle.covering_dns.proofs.Laws.{kind_at_law}
+use borrow.Author.Rules.{rules}
+use Rattle.covering_dns.proofs.kind_in.Goals as goal
+
+pub returns : goal.returns
+returns c = kind_at_law _ _ c.requires.0.names_at

@@ -1,0 +1,13 @@
+use mathlib.Core.Path.{sym, ◌∙◌}
+use Rattle.model.proofs.Optional.{absent_fails, present_and}
+use Rattle.sans.specs.Sans.{check_san_has_dns}
+use borrow.Author.Rules.{rules}
+use Rattle.sans.proofs.check_san_has_dns.Goals as goal
+
+pub returns-then-cert_word-eq0 : goal.returns-then-cert_word-eq0
+unfolding check_san_has_dns
+returns-then-cert_word-eq0 c = absent_fails _ _ _ (sym c.cert_word.ensures ∙ c.if-cert_word-eq0.true)
+
+pub returns : goal.returns
+unfolding check_san_has_dns
+returns c = present_and _ _ _ (λ e. c.if-cert_word-eq0.false (c.cert_word.ensures ∙ e)) (rw (← c.cert_range.ensures) c.has_kind.ensures)

@@ -1,0 +1,7 @@
+use Rattle.sans.specs.Sans.{is_common}
+use borrow.Author.Rules.{rules}
+use Rattle.sans.proofs.is_common.Goals as goal
+
+pub returns : goal.returns
+unfolding is_common
+returns c = rw (← c.oid.ensures) c.same.ensures

@@ -1,0 +1,6 @@
+use Rattle.sans.proofs.Laws.{kind_is}
+use borrow.Author.Rules.{rules}
+use Rattle.sans.proofs.is_kind.Goals as goal
+
+pub returns : goal.returns
+returns c = kind_is _ _ _ _ c.kind.ensures c.number.ensures
