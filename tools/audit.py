@@ -1,7 +1,7 @@
 #!/usr/bin/env python3
 """audit.py [ROOT]: what docs/AUDIT.md promises of every public function, held to the sources. It prints each gap and fails if there is one.
 
-- A public function has a row, an `ensures` and no `requires`. Its row quotes each clause, as `quoted` writes it, and names two wrong bodies; the edits that stand
+- A public function has a row, an `ensures` and no `requires`, but for those in UNSTATED. Its row quotes each clause, as `quoted` writes it, and names two wrong bodies; the edits that stand
   in bold are in a must-fail folder. A row has its function, and an edit its row or its mention.
 - A parameter that is a plain number stands in NUMBERS: what names a string, a certificate or a rule has a type of its own.
 - No definition in specs/ gives a symbol of the library a meaning of its own.
@@ -48,6 +48,9 @@ NUMBERS = {
     "writers::write_report": {"n": "a count of certificates"},
     "faults::without": {"n": "a count of certificates", "k": "a count of certificates"},
 }
+# Functions of which no contract can say anything, and why.
+UNSTATED = {"data_file::open": "what a file gives, and whether it is there, no contract can say"}
+
 INTEGER = re.compile(r"^(u8|u16|u32|u64|usize|i64)$")
 
 # What the library means by a symbol, no definition may change.
@@ -109,6 +112,8 @@ def edits():
 def function_gaps(rows, kept):
     seen = set()
     for name, takes, contract in functions():
+        if name in UNSTATED:
+            continue
         seen.add(name)
         if "ensures" not in contract:
             yield f"{name} has no ensures"

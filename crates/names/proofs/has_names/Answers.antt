@@ -1,10 +1,5 @@
 -- Written by tools/row_loops.py. Assumes nothing.
-use Prim.Native.Nat.{◌-◌}
-use mathlib.Core.Path.{◌≡◌, refl}
-use borrow.Author.Rules.{rules}
-use Rattle.laws.specs.Lists.{rows, all}
-use Rattle.model.specs.Decode.{attribute_at}
-use Rattle.names.specs.Names.{rdn_has_name, rdn_in}
+use mathlib.Core.Path.{refl}
 use Rattle.laws.proofs.Loops.{all_here, all_next, all_none}
 use Rattle.names.proofs.has_names.Goals as goal
 

@@ -1,13 +1,10 @@
 -- Written by tools/row_loops.py. Assumes nothing.
 use Prim.Native.Nat.{◌+◌, ◌-◌}
 use mathlib.Core.Path.{◌≡◌}
-use borrow.Author.Rules.{rules}
 use Rattle.laws.specs.Lists.{numbers, all}
 use Rattle.table.specs.Table.{over}
 use Rattle.model.specs.Decode.{attribute_at}
 use Rattle.names.specs.Names.{same_attr, same_rdn}
-use Rattle.laws.proofs.Loops.{all_here, all_next, all_none}
-use Rattle.laws.proofs.Pairs.{each_unequal, each_pairs}
 use Rattle.names.proofs.same_attrs.Given as goal
 
 abbrev pub invariant-loop-k : goal.invariant-loop-k

@@ -1,12 +1,8 @@
-use borrow.Author.Rules.{rules}
-use Prim.Native.Nat.{ℕ, ◌+◌, ◌*◌, ◌-◌, ◌≤◌}
-use native.Mathlib.Omega.{arith}
-use mathlib.Core.Path.{◌≡◌, refl}
+use Prim.Native.Nat.{◌+◌, ◌*◌, ◌-◌, ◌≤◌}
+use mathlib.Core.Path.{◌≡◌}
 use lib.ListN.{length}
 use Rattle.laws.specs.Lists.{least}
-use Rattle.laws.proofs.Loops.{least_none}
 use Rattle.row_tests.specs.Wrong.{string_out}
-use Rattle.search.proofs.Steps.{row_first, row_next, row_fits, row_here, row_later}
 use Rattle.search.proofs.first_string_out.Given as goal
 
 -- the rows that were passed are right

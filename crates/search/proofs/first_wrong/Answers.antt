@@ -1,9 +1,6 @@
-use borrow.Author.Rules.{rules}
-use Prim.Native.Nat.{ℕ, ◌+◌, ◌*◌, ◌-◌, ◌≤◌}
+use Prim.Native.Nat.{ℕ}
 use native.Mathlib.Omega.{arith}
-use mathlib.Core.Path.{◌≡◌, refl}
-use lib.ListN.{length}
-use Rattle.laws.specs.Lists.{least}
+use mathlib.Core.Path.{refl}
 use Rattle.laws.proofs.Loops.{least_none}
 use Rattle.row_tests.specs.Wrong.{wrong}
 use Rattle.search.proofs.Steps.{row_first, row_next, row_fits, row_here, row_later}
