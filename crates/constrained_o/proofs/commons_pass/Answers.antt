@@ -1,12 +1,6 @@
 -- Written by tools/row_loops.py. Assumes nothing.
-use Prim.Native.Nat.{◌-◌}
-use mathlib.Core.Path.{◌≡◌, refl}
-use borrow.Author.Rules.{rules}
-use Rattle.laws.specs.Lists.{rows, all}
-use Rattle.model.specs.Decode.{rdn_at, generals_in}
-use Rattle.sans.specs.Sans.{if_common, each_common}
-use Rattle.covering_dns.specs.declared.Covering.TheVariants.{Lowered}
-use Rattle.constraints.specs.Keeps.{text_passes}
+use mathlib.Core.Path.{refl}
+use Rattle.sans.specs.Sans.{each_common}
 use Rattle.laws.proofs.Loops.{all_here, all_next, all_none}
 use Rattle.constrained_o.proofs.commons_pass.Goals as goal
 

@@ -1,13 +1,11 @@
 -- Written by tools/row_loops.py. Assumes nothing.
 use Prim.Native.Nat.{◌-◌}
-use mathlib.Core.Path.{◌≡◌, refl}
-use borrow.Author.Rules.{rules}
+use mathlib.Core.Path.{◌≡◌}
 use Rattle.laws.specs.Lists.{rows, all}
 use Rattle.model.specs.Decode.{rdn_at, generals_in}
 use Rattle.sans.specs.Sans.{if_common, each_common}
 use Rattle.covering_dns.specs.declared.Covering.TheVariants.{Lowered}
 use Rattle.constraints.specs.Keeps.{text_passes}
-use Rattle.laws.proofs.Loops.{all_here, all_next, all_none}
 use Rattle.constrained_o.proofs.commons_pass.Given as goal
 
 abbrev pub invariant-loop-i : goal.invariant-loop-i

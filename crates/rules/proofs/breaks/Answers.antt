@@ -1,0 +1,24 @@
+-- Each kind of spot has its table. Written by tools/reports.py. Assumes nothing.
+use native.Mathlib.Omega.{arith}
+use mathlib.Core.Path.{◌∙◌}
+use Rattle.rules.specs.Rules.{broken}
+use Rattle.rules.proofs.Laws.{at_one}
+use Rattle.rules.proofs.breaks.Goals as goal
+
+pub overflow_add-at : goal.overflow_add-at
+overflow_add-at c = omega arith
+
+pub breaks_within-requires : goal.breaks_within-requires
+breaks_within-requires c = omega arith
+
+pub returns-in-Nothing : goal.returns-in-Nothing
+unfolding broken
+returns-in-Nothing c = rw c.in-Nothing.is
+
+pub returns-in-Certificate : goal.returns-in-Certificate
+unfolding broken
+returns-in-Certificate c = rw c.in-Certificate.is (c.breaks_within.ensures ∙ at_one _ _ _ _ _)
+
+pub returns-in-Pair : goal.returns-in-Pair
+unfolding broken
+returns-in-Pair c = rw c.in-Pair.is c.breaks_between.ensures

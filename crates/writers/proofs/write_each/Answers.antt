@@ -1,0 +1,47 @@
+-- Each turn writes into what the turns before it left free. Written by tools/reports.py. Assumes nothing.
+use Prim.Native.Nat.{◌+◌, ◌-◌, ◌≤◌, ◌<◌}
+use native.Mathlib.Omega.{arith}
+use borrow.Author.Rules.{rules}
+use Rattle.faults.specs.Report.{certificate}
+use Rattle.faults.specs.Index.{asked}
+use Rattle.faults.proofs.Laws.{SoFar, so_far_none, so_far_more, each_turn, so_far_done}
+use Rattle.rules.specs.Rules.{broken_in}
+use Rattle.writers.proofs.Laws.{each_unbroken}
+use Rattle.writers.proofs.write_each.Goals as goal
+
+pub returns-then-not-any_breaks : goal.returns-then-not-any_breaks
+returns-then-not-any_breaks c = each_unbroken _ _ _ _ _ c.any_breaks.ensures c.if-not-any_breaks.true
+
+pub loop-i-init : goal.loop-i-init
+loop-i-init c = (omega arith, omega arith, omega arith, so_far_none _ _ _ (omega arith) (omega arith))
+
+pub overflow_mul-at : goal.overflow_mul-at
+overflow_mul-at c = omega arith
+
+pub offset_bounds-report-at : goal.offset_bounds-report-at
+offset_bounds-report-at c = omega arith
+
+pub slice_bounds-write_one-count : goal.slice_bounds-write_one-count
+slice_bounds-write_one-count c = omega arith
+
+pub slice_bounds-write_one-start : goal.slice_bounds-write_one-start
+slice_bounds-write_one-start c = omega arith
+
+pub overflow_add-i : goal.overflow_add-i
+overflow_add-i c = omega arith
+
+pub loop-i-smaller : goal.loop-i-smaller
+loop-i-smaller c = omega arith
+
+pub loop-i-preserved : goal.loop-i-preserved
+loop-i-preserved c =
+    let p = c.before.before.before in
+    let l = p.before.before.before.before.loop in (
+      omega arith,
+      omega arith,
+      omega arith,
+      so_far_more _ (omega arith) l.invariant.3 p.write-one.ensures (each_turn _ _ l.invariant.0) c.joined-tally.ensures,
+    )
+
+pub returns : goal.returns
+returns c = so_far_done _ c.loop-i.invariant.3 (omega arith)

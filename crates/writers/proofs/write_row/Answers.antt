@@ -1,0 +1,48 @@
+-- Each turn writes into what the turns before it left free. Written by tools/reports.py. Assumes nothing.
+use Prim.Native.Nat.{◌-◌, ◌≤◌, ◌<◌}
+use native.Mathlib.Omega.{arith}
+use mathlib.Core.Path.{refl, sym, ◌∙◌}
+use borrow.Author.Rules.{rules}
+use Rattle.faults.specs.Report.{pair}
+use Rattle.faults.specs.Index.{asked, row}
+use Rattle.faults.proofs.Laws.{SoFar, so_far_none, so_far_more, so_far_done}
+use Rattle.rules.specs.Rules.{broken_in}
+use Rattle.writers.proofs.Laws.{row_unasked}
+use Rattle.writers.proofs.write_row.Goals as goal
+
+pub returns-then-asks_nothing : goal.returns-then-asks_nothing
+returns-then-asks_nothing c = row_unasked _ _ _ _ _ _ (sym c.asks_nothing.ensures ∙ c.if-asks_nothing.true)
+
+pub loop-j-init : goal.loop-j-init
+loop-j-init c = (omega arith, omega arith, so_far_none _ _ _ (omega arith) (omega arith))
+
+pub overflow_mul-at : goal.overflow_mul-at
+overflow_mul-at c = omega arith
+
+pub offset_bounds-report-at : goal.offset_bounds-report-at
+offset_bounds-report-at c = omega arith
+
+pub slice_bounds-write_one-count : goal.slice_bounds-write_one-count
+slice_bounds-write_one-count c = omega arith
+
+pub slice_bounds-write_one-start : goal.slice_bounds-write_one-start
+slice_bounds-write_one-start c = omega arith
+
+pub overflow_add-j : goal.overflow_add-j
+overflow_add-j c = omega arith
+
+pub loop-j-smaller : goal.loop-j-smaller
+loop-j-smaller c = omega arith
+
+pub loop-j-preserved : goal.loop-j-preserved
+loop-j-preserved c =
+    let p = c.before.before.before in
+    let l = p.before.before.before.before.loop in (
+      omega arith,
+      omega arith,
+      so_far_more _ (omega arith) l.invariant.2 p.write-one.ensures refl c.joined-tally.ensures,
+    )
+
+pub returns : goal.returns
+unfolding row
+returns c = so_far_done _ c.loop-j.invariant.2 (omega arith)
