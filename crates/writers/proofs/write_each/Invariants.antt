@@ -1,12 +1,9 @@
 -- Each turn writes into what the turns before it left free. Written by tools/reports.py. Assumes nothing.
 use Prim.Native.Nat.{◌+◌, ◌-◌, ◌≤◌, ◌<◌}
-use native.Mathlib.Omega.{arith}
-use borrow.Author.Rules.{rules}
 use Rattle.faults.specs.Report.{certificate}
 use Rattle.faults.specs.Index.{asked}
-use Rattle.faults.proofs.Laws.{SoFar, so_far_none, so_far_more, each_turn, so_far_done}
+use Rattle.faults.proofs.Laws.{SoFar}
 use Rattle.rules.specs.Rules.{broken_in}
-use Rattle.writers.proofs.Laws.{each_unbroken}
 use Rattle.writers.proofs.write_each.Given as goal
 
 abbrev pub invariant-loop-i : goal.invariant-loop-i

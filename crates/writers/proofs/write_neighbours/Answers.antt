@@ -1,12 +1,7 @@
 -- Each turn writes into what the turns before it left free. Written by tools/reports.py. Assumes nothing.
-use Prim.Native.Nat.{◌+◌, ◌-◌, ◌≤◌, ◌<◌}
 use native.Mathlib.Omega.{arith}
 use mathlib.Core.Path.{refl}
-use borrow.Author.Rules.{rules}
-use Rattle.faults.specs.Report.{pair}
-use Rattle.faults.specs.Index.{asked}
-use Rattle.faults.proofs.Laws.{SoFar, so_far_none, so_far_more, so_far_done}
-use Rattle.rules.specs.Rules.{broken_in}
+use Rattle.faults.proofs.Laws.{so_far_none, so_far_more, so_far_done}
 use Rattle.writers.proofs.write_neighbours.Goals as goal
 
 pub loop-i-init : goal.loop-i-init
@@ -31,13 +26,11 @@ pub loop-i-smaller : goal.loop-i-smaller
 loop-i-smaller c = omega arith
 
 pub loop-i-preserved : goal.loop-i-preserved
-loop-i-preserved c =
-    let p = c.before.before.before in
-    let l = p.before.before.before.before.loop in (
-      omega arith,
-      omega arith,
-      so_far_more _ (omega arith) l.invariant.2 p.write-one.ensures refl c.joined-tally.ensures,
-    )
+loop-i-preserved c = (
+  omega arith,
+  omega arith,
+  so_far_more _ (omega arith) c.loop-i.invariant.2 c.write_one-t.ensures refl c.joined-tally.ensures,
+)
 
 pub returns : goal.returns
 returns c = so_far_done _ c.loop-i.invariant.2 (omega arith)

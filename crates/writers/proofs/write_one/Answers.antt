@@ -1,5 +1,4 @@
 -- One test, and one entry where it holds. Written by tools/reports.py. Assumes nothing.
-use borrow.Author.Rules.{rules}
 use Rattle.faults.specs.Index.{asked}
 use Rattle.writers.proofs.write_one.Goals as goal
 

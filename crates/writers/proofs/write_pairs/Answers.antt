@@ -1,10 +1,6 @@
 -- Each turn writes into what the turns before it left free. Written by tools/reports.py. Assumes nothing.
-use Prim.Native.Nat.{◌+◌, ◌-◌, ◌≤◌, ◌<◌}
 use native.Mathlib.Omega.{arith}
-use borrow.Author.Rules.{rules}
-use Rattle.faults.specs.Index.{row}
-use Rattle.faults.proofs.Laws.{SoFar, so_far_none, so_far_more, pairs_turn, so_far_done}
-use Rattle.rules.specs.Rules.{broken_in}
+use Rattle.faults.proofs.Laws.{so_far_none, so_far_more, pairs_turn, so_far_done}
 use Rattle.writers.proofs.write_pairs.Goals as goal
 
 pub loop-i-init : goal.loop-i-init
@@ -29,14 +25,12 @@ pub loop-i-smaller : goal.loop-i-smaller
 loop-i-smaller c = omega arith
 
 pub loop-i-preserved : goal.loop-i-preserved
-loop-i-preserved c =
-    let p = c.before.before.before in
-    let l = p.before.before.before.before.loop in (
-      omega arith,
-      omega arith,
-      omega arith,
-      so_far_more _ (omega arith) l.invariant.3 p.write-row.ensures (pairs_turn _ _ l.invariant.0) c.joined-tally.ensures,
-    )
+loop-i-preserved c = (
+  omega arith,
+  omega arith,
+  omega arith,
+  so_far_more _ (omega arith) c.loop-i.invariant.3 c.write_row-t.ensures (pairs_turn _ _ c.loop-i.invariant.0) c.joined-tally.ensures,
+)
 
 pub returns : goal.returns
 returns c = so_far_done _ c.loop-i.invariant.3 (omega arith)

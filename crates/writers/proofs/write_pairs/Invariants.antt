@@ -1,9 +1,7 @@
 -- Each turn writes into what the turns before it left free. Written by tools/reports.py. Assumes nothing.
 use Prim.Native.Nat.{◌+◌, ◌-◌, ◌≤◌, ◌<◌}
-use native.Mathlib.Omega.{arith}
-use borrow.Author.Rules.{rules}
 use Rattle.faults.specs.Index.{row}
-use Rattle.faults.proofs.Laws.{SoFar, so_far_none, so_far_more, pairs_turn, so_far_done}
+use Rattle.faults.proofs.Laws.{SoFar}
 use Rattle.rules.specs.Rules.{broken_in}
 use Rattle.writers.proofs.write_pairs.Given as goal
 

@@ -1,6 +1,5 @@
 use Rattle.faults.proofs.Laws.{full_short, full_long}
 use Rattle.writers.proofs.Laws.{whole}
-use borrow.Author.Rules.{rules}
 use Rattle.writers.proofs.write_report.Goals as goal
 
 pub returns-then-n-lt-FEWEST : goal.returns-then-n-lt-FEWEST

@@ -1,12 +1,8 @@
 -- Each turn writes into what the turns before it left free. Written by tools/reports.py. Assumes nothing.
-use Prim.Native.Nat.{◌-◌, ◌≤◌, ◌<◌}
 use native.Mathlib.Omega.{arith}
 use mathlib.Core.Path.{refl, sym, ◌∙◌}
-use borrow.Author.Rules.{rules}
-use Rattle.faults.specs.Report.{pair}
-use Rattle.faults.specs.Index.{asked, row}
-use Rattle.faults.proofs.Laws.{SoFar, so_far_none, so_far_more, so_far_done}
-use Rattle.rules.specs.Rules.{broken_in}
+use Rattle.faults.specs.Index.{row}
+use Rattle.faults.proofs.Laws.{so_far_none, so_far_more, so_far_done}
 use Rattle.writers.proofs.Laws.{row_unasked}
 use Rattle.writers.proofs.write_row.Goals as goal
 
@@ -35,13 +31,11 @@ pub loop-j-smaller : goal.loop-j-smaller
 loop-j-smaller c = omega arith
 
 pub loop-j-preserved : goal.loop-j-preserved
-loop-j-preserved c =
-    let p = c.before.before.before in
-    let l = p.before.before.before.before.loop in (
-      omega arith,
-      omega arith,
-      so_far_more _ (omega arith) l.invariant.2 p.write-one.ensures refl c.joined-tally.ensures,
-    )
+loop-j-preserved c = (
+  omega arith,
+  omega arith,
+  so_far_more _ (omega arith) c.loop-j.invariant.2 c.write_one-t.ensures refl c.joined-tally.ensures,
+)
 
 pub returns : goal.returns
 unfolding row

@@ -1,13 +1,9 @@
 -- Each turn writes into what the turns before it left free. Written by tools/reports.py. Assumes nothing.
 use Prim.Native.Nat.{◌-◌, ◌≤◌, ◌<◌}
-use native.Mathlib.Omega.{arith}
-use mathlib.Core.Path.{refl, sym, ◌∙◌}
-use borrow.Author.Rules.{rules}
 use Rattle.faults.specs.Report.{pair}
-use Rattle.faults.specs.Index.{asked, row}
-use Rattle.faults.proofs.Laws.{SoFar, so_far_none, so_far_more, so_far_done}
+use Rattle.faults.specs.Index.{asked}
+use Rattle.faults.proofs.Laws.{SoFar}
 use Rattle.rules.specs.Rules.{broken_in}
-use Rattle.writers.proofs.Laws.{row_unasked}
 use Rattle.writers.proofs.write_row.Given as goal
 
 abbrev pub invariant-loop-j : goal.invariant-loop-j

@@ -1,5 +1,4 @@
 -- Each case of the places has its writer. Written by tools/reports.py. Assumes nothing.
-use borrow.Author.Rules.{rules}
 use Rattle.faults.specs.Index.{entries_at}
 use Rattle.faults.proofs.Laws.{wrote_none}
 use Rattle.writers.proofs.write_rule.Goals as goal

@@ -1,14 +1,10 @@
 -- Each turn writes into what the turns before it left free. Written by tools/reports.py. Assumes nothing.
-use Prim.Native.Nat.{◌-◌, ◌≤◌, ◌<◌}
 use native.Mathlib.Omega.{arith}
 use mathlib.Core.Path.{refl, ◌∙◌}
-use mathlib.Core.Logic.{⊎_elim}
-use borrow.Author.Rules.{rules}
-use Rattle.faults.specs.Index.{entries_at, index}
-use Rattle.faults.proofs.Laws.{SoFar, so_far_none, so_far_more, so_far_same, so_far_done}
-use Rattle.policies.specs.Tables.{places_of, rules}
-use Rattle.rules.specs.Rules.{broken_in}
+use Rattle.faults.specs.Index.{index}
+use Rattle.faults.proofs.Laws.{so_far_none, so_far_more, so_far_same, so_far_done}
 use Rattle.writers.proofs.write_rules.Goals as goal
+use Rattle.writers.proofs.write_rules.Goals.{then-t-ne0, else-t-ne0}
 
 pub loop-r-init : goal.loop-r-init
 loop-r-init c = (omega arith, omega arith, so_far_none _ _ _ (omega arith) (omega arith))
@@ -32,16 +28,14 @@ pub loop-r-smaller : goal.loop-r-smaller
 loop-r-smaller c = omega arith
 
 pub loop-r-preserved : goal.loop-r-preserved
-loop-r-preserved c =
-    let p = c.before.before.before.before in
-    let l = p.before.before.before.before.loop in (
-      omega arith,
-      omega arith,
-      ⊎_elim
-          (λ w. so_far_more _ (omega arith) l.invariant.2 p.write-rule.ensures refl (w.2 ∙ w.1.ensures))
-          (λ w. rw w.1 (so_far_same _ (omega arith) l.invariant.2 p.write-rule.ensures refl w.0.left))
-          c.if-t-ne0.branch,
-    )
+loop-r-preserved c = (
+  omega arith,
+  omega arith,
+  elim c.if-t-ne0.branch [
+    | then-t-ne0 w ↦ so_far_more _ (omega arith) c.loop-r.invariant.2 c.write_rule-t.ensures refl (w.tally-is ∙ w.joined-tally.ensures)
+    | else-t-ne0 w ↦ rw w.tally-is (so_far_same _ (omega arith) c.loop-r.invariant.2 c.write_rule-t.ensures refl w.if-t-ne0.false)
+  ],
+)
 
 pub returns : goal.returns
 unfolding index

@@ -1,11 +1,7 @@
 -- Each turn writes into what the turns before it left free. Written by tools/reports.py. Assumes nothing.
 use Prim.Native.Nat.{◌-◌, ◌≤◌, ◌<◌}
-use native.Mathlib.Omega.{arith}
-use mathlib.Core.Path.{refl, ◌∙◌}
-use mathlib.Core.Logic.{⊎_elim}
-use borrow.Author.Rules.{rules}
-use Rattle.faults.specs.Index.{entries_at, index}
-use Rattle.faults.proofs.Laws.{SoFar, so_far_none, so_far_more, so_far_same, so_far_done}
+use Rattle.faults.specs.Index.{entries_at}
+use Rattle.faults.proofs.Laws.{SoFar}
 use Rattle.policies.specs.Tables.{places_of, rules}
 use Rattle.rules.specs.Rules.{broken_in}
 use Rattle.writers.proofs.write_rules.Given as goal
