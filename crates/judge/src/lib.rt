@@ -1,4 +1,6 @@
 // The judge: bundles are checked, the report is written, and the answer says what came of it.
+#![tactic(auto)]
+
 ghost use Rattle.std.specs.Prelude.{◌≡◌, ◌<◌};
 ghost use Rattle.table.specs.Table.{count_of};
 ghost use Rattle.model.specs.Sections.{certs};

@@ -1,4 +1,6 @@
 // The boundary to callers outside: the judges, and their answers as eight words. No logic of its own. The crate udrasmil_c exports both to C (include/udrasmil.h).
+#![tactic(auto)]
+
 ghost use Rattle.std.specs.Prelude.{◌≡◌, [], ◌∷◌};
 ghost use Rattle.sound.specs.Answer.{bundle_number, place_kind, place_first, place_second};
 ghost use Rattle.judge.specs.Judged.{answer_words};
