@@ -1,12 +1,10 @@
 -- Written by tools/loops.py. Assumes nothing.
 use Prim.Native.Nat.{◌-◌}
 use mathlib.Core.Path.{◌≡◌}
-use borrow.Author.Rules.{rules}
 use lib.ListN.{length}
-use Rattle.ascii.specs.Bytes.{is_host_byte}
 use Rattle.laws.specs.Lists.{rows, all}
 use Rattle.laws.proofs.Rows.{at}
-use Rattle.laws.proofs.Loops.{all_here, all_next, all_none, all_start}
+use Rattle.ascii.specs.Bytes.{is_host_byte}
 use Rattle.ascii.proofs.all_host_bytes.Given as goal
 
 abbrev pub invariant-loop-i : goal.invariant-loop-i

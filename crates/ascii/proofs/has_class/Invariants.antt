@@ -1,13 +1,11 @@
 -- Written by tools/loops.py. Assumes nothing.
 use Prim.Native.Nat.{◌-◌}
 use mathlib.Core.Path.{◌≡◌}
-use borrow.Author.Rules.{rules}
 use lib.ListN.{length}
-use lib.Dec.{eqb}
-use Rattle.ascii.specs.Bytes.{class_of}
 use Rattle.laws.specs.Lists.{rows, any}
 use Rattle.laws.proofs.Rows.{at}
-use Rattle.laws.proofs.Loops.{any_here, any_next, any_none, any_start}
+use lib.Dec.{eqb}
+use Rattle.ascii.specs.Bytes.{class_of}
 use Rattle.ascii.proofs.has_class.Given as goal
 
 abbrev pub invariant-loop-i : goal.invariant-loop-i

@@ -1,11 +1,7 @@
 -- Written by tools/row_loops.py. Assumes nothing.
-use Prim.Native.Nat.{◌-◌}
-use mathlib.Core.Path.{◌≡◌, refl}
-use borrow.Author.Rules.{rules}
-use Rattle.laws.specs.Lists.{rows, any}
-use Rattle.model.specs.Decode.{name_in, general_at, generals_in}
-use Rattle.covering.specs.Covers.{over_directory}
+use mathlib.Core.Path.{refl}
 use Rattle.laws.proofs.Loops.{any_here, any_next, any_none}
+use Rattle.model.specs.Decode.{generals_in}
 use Rattle.covering.proofs.any_directory.Goals as goal
 
 pub loop-i-init : goal.loop-i-init

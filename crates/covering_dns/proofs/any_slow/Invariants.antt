@@ -1,11 +1,9 @@
 -- Written by tools/row_loops.py. Assumes nothing.
 use Prim.Native.Nat.{◌-◌}
-use mathlib.Core.Path.{◌≡◌, refl}
-use borrow.Author.Rules.{rules}
+use mathlib.Core.Path.{◌≡◌}
 use Rattle.laws.specs.Lists.{rows, any}
 use Rattle.model.specs.Decode.{general_at, generals_in}
 use Rattle.covering_dns.specs.Covers.{over_dns}
-use Rattle.laws.proofs.Loops.{any_here, any_next, any_none}
 use Rattle.covering_dns.proofs.any_slow.Given as goal
 
 abbrev pub invariant-loop-i : goal.invariant-loop-i

@@ -1,12 +1,7 @@
 -- Written by tools/row_loops.py. Assumes nothing.
-use Prim.Native.Nat.{◌-◌}
-use mathlib.Core.Path.{◌≡◌, refl}
-use borrow.Author.Rules.{rules}
-use Rattle.laws.specs.Lists.{rows, any}
-use Rattle.model.specs.Decode.{rdn_at}
-use Rattle.sans.specs.Sans.{common_and, some_common}
-use Rattle.hosts.specs.Hostname.{names_host}
+use mathlib.Core.Path.{refl}
 use Rattle.laws.proofs.Loops.{any_here, any_next, any_none}
+use Rattle.sans.specs.Sans.{some_common}
 use Rattle.hosts.proofs.any_rdn_names.Goals as goal
 
 pub loop-i-init : goal.loop-i-init

@@ -1,12 +1,10 @@
 -- Written by tools/row_loops.py. Assumes nothing.
 use Prim.Native.Nat.{◌-◌}
-use mathlib.Core.Path.{◌≡◌, refl}
-use borrow.Author.Rules.{rules}
+use mathlib.Core.Path.{◌≡◌}
 use Rattle.laws.specs.Lists.{rows, any}
 use Rattle.model.specs.Decode.{rdn_at}
 use Rattle.sans.specs.Sans.{common_and, some_common}
 use Rattle.hosts.specs.Hostname.{names_host}
-use Rattle.laws.proofs.Loops.{any_here, any_next, any_none}
 use Rattle.hosts.proofs.any_rdn_names.Given as goal
 
 abbrev pub invariant-loop-i : goal.invariant-loop-i

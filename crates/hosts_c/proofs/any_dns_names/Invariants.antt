@@ -1,13 +1,11 @@
 -- Written by tools/row_loops.py. Assumes nothing.
 use Prim.Native.Nat.{◌-◌}
-use mathlib.Core.Path.{◌≡◌, refl}
-use borrow.Author.Rules.{rules}
+use mathlib.Core.Path.{◌≡◌}
 use Rattle.laws.specs.Lists.{rows, any}
 use Rattle.text.specs.Texts.{lowered}
 use Rattle.model.specs.Decode.{general_at, generals_in}
 use Rattle.sans.specs.Sans.{dns_and}
 use Rattle.hosts_c.specs.SanHost.{names_clean}
-use Rattle.laws.proofs.Loops.{any_here, any_next, any_none}
 use Rattle.hosts_c.proofs.any_dns_names.Given as goal
 
 abbrev pub invariant-loop-i : goal.invariant-loop-i

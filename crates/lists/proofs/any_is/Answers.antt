@@ -1,12 +1,7 @@
 -- Written by tools/row_loops.py. Assumes nothing.
-use Prim.Native.Nat.{◌-◌}
-use mathlib.Core.Path.{◌≡◌, refl}
-use borrow.Author.Rules.{rules}
-use Rattle.laws.specs.Lists.{rows, any}
-use Rattle.laws.specs.Lists.{eq_list}
-use Rattle.model.specs.Decode.{entry_at}
-use Rattle.lists.specs.Listed.{listed}
+use mathlib.Core.Path.{refl}
 use Rattle.laws.proofs.Loops.{any_here, any_next, any_none}
+use Rattle.lists.specs.Listed.{listed}
 use Rattle.lists.proofs.any_is.Goals as goal
 
 pub loop-i-init : goal.loop-i-init

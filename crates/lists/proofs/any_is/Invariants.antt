@@ -1,12 +1,9 @@
 -- Written by tools/row_loops.py. Assumes nothing.
 use Prim.Native.Nat.{◌-◌}
-use mathlib.Core.Path.{◌≡◌, refl}
-use borrow.Author.Rules.{rules}
-use Rattle.laws.specs.Lists.{rows, any}
-use Rattle.laws.specs.Lists.{eq_list}
+use mathlib.Core.Path.{◌≡◌}
+use Rattle.laws.specs.Lists.{rows, any, eq_list}
 use Rattle.model.specs.Decode.{entry_at}
 use Rattle.lists.specs.Listed.{listed}
-use Rattle.laws.proofs.Loops.{any_here, any_next, any_none}
 use Rattle.lists.proofs.any_is.Given as goal
 
 abbrev pub invariant-loop-i : goal.invariant-loop-i

@@ -1,13 +1,7 @@
 -- Written by tools/row_loops.py. Assumes nothing.
-use Prim.Native.Nat.{◌-◌}
-use mathlib.Core.Path.{◌≡◌, refl}
-use borrow.Author.Rules.{rules}
-use Rattle.laws.specs.Lists.{rows, any}
-use Rattle.text.specs.Texts.{lowered}
-use Rattle.patterns.specs.Patterns.{match_name}
-use Rattle.model.specs.Decode.{entry_at}
-use Rattle.lists.specs.Listed.{matched}
+use mathlib.Core.Path.{refl}
 use Rattle.laws.proofs.Loops.{any_here, any_next, any_none}
+use Rattle.lists.specs.Listed.{matched}
 use Rattle.lists.proofs.any_matches.Goals as goal
 
 pub loop-i-init : goal.loop-i-init

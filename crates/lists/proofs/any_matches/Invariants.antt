@@ -1,13 +1,11 @@
 -- Written by tools/row_loops.py. Assumes nothing.
 use Prim.Native.Nat.{◌-◌}
-use mathlib.Core.Path.{◌≡◌, refl}
-use borrow.Author.Rules.{rules}
+use mathlib.Core.Path.{◌≡◌}
 use Rattle.laws.specs.Lists.{rows, any}
 use Rattle.text.specs.Texts.{lowered}
 use Rattle.patterns.specs.Patterns.{match_name}
 use Rattle.model.specs.Decode.{entry_at}
 use Rattle.lists.specs.Listed.{matched}
-use Rattle.laws.proofs.Loops.{any_here, any_next, any_none}
 use Rattle.lists.proofs.any_matches.Given as goal
 
 abbrev pub invariant-loop-i : goal.invariant-loop-i

@@ -1,11 +1,9 @@
 -- Written by tools/row_loops.py. Assumes nothing.
 use Prim.Native.Nat.{◌-◌}
-use mathlib.Core.Path.{◌≡◌, refl}
-use borrow.Author.Rules.{rules}
+use mathlib.Core.Path.{◌≡◌}
 use Rattle.laws.specs.Lists.{rows, all}
 use Rattle.model.specs.Decode.{attribute_at}
 use Rattle.names.specs.Names.{rdn_has_name, rdn_in}
-use Rattle.laws.proofs.Loops.{all_here, all_next, all_none}
 use Rattle.names.proofs.has_names.Given as goal
 
 abbrev pub invariant-loop-i : goal.invariant-loop-i

@@ -1,11 +1,9 @@
 -- Written by tools/row_loops.py. Assumes nothing.
 use Prim.Native.Nat.{◌-◌}
-use mathlib.Core.Path.{◌≡◌, refl}
-use borrow.Author.Rules.{rules}
+use mathlib.Core.Path.{◌≡◌}
 use Rattle.laws.specs.Lists.{rows, any}
 use Rattle.model.specs.Decode.{attribute_at}
 use Rattle.names.specs.Names.{same_attr, rdn_has_name}
-use Rattle.laws.proofs.Loops.{any_here, any_next, any_none}
 use Rattle.names.proofs.rdn_has_name.Given as goal
 
 abbrev pub invariant-loop-i : goal.invariant-loop-i

@@ -1,5 +1,4 @@
 -- Each policy has its own. Written by tools/reports.py. Assumes nothing.
-use borrow.Author.Rules.{rules}
 use Rattle.policies.specs.Tables.{places_of}
 use Rattle.policies.proofs.places_of.Goals as goal
 

@@ -1,10 +1,5 @@
 -- Written by tools/row_loops.py. Assumes nothing.
-use Prim.Native.Nat.{◌-◌}
-use mathlib.Core.Path.{◌≡◌, refl}
-use borrow.Author.Rules.{rules}
-use Rattle.laws.specs.Lists.{rows, any}
-use Rattle.model.specs.Decode.{usage_at}
-use Rattle.purpose.specs.Purpose.{serves}
+use mathlib.Core.Path.{refl}
 use Rattle.laws.proofs.Loops.{any_here, any_next, any_none}
 use Rattle.purpose.proofs.any_serves.Goals as goal
 

@@ -1,15 +1,11 @@
-use borrow.Author.Rules.{rules}
-use Prim.Native.Nat.{ℕ, ◌+◌, ◌*◌, ◌-◌, ◌≤◌}
-use native.Mathlib.Omega.{arith}
-use mathlib.Core.Path.{◌≡◌, refl}
+-- The rows that were passed are right. Written by tools/searches.py. Assumes nothing.
+use Prim.Native.Nat.{◌+◌, ◌*◌, ◌-◌, ◌≤◌}
+use mathlib.Core.Path.{◌≡◌}
 use lib.ListN.{length}
 use Rattle.laws.specs.Lists.{least}
-use Rattle.laws.proofs.Loops.{least_none}
 use Rattle.row_tests.specs.Wrong.{string_out}
-use Rattle.search.proofs.Steps.{row_first, row_next, row_fits, row_here, row_later}
 use Rattle.search.proofs.first_string_out.Given as goal
 
--- the rows that were passed are right
 abbrev pub invariant-loop-i : goal.invariant-loop-i
 invariant-loop-i l = (l.q ≡ l.initial.q + l.size * l.i) × (l.i ≤ l.count) × (l.initial.q + l.size * l.count ≤ length l.words) × (least (λ k. string_out l.words l.bytes ((l.initial.q + l.size * k) + l.j)) 0 l.count ≡ least (λ k. string_out l.words l.bytes ((l.initial.q + l.size * k) + l.j)) l.i l.count)
 

@@ -1,7 +1,7 @@
+-- Written by tools/searches.py. Assumes nothing.
 use Rattle.model.specs.Sections.{policy_header}
 use Rattle.sections.specs.Placed.{found_section}
 use Rattle.sections.proofs.Each.{each_more, each_done}
-use borrow.Author.Rules.{rules}
 use Rattle.sections.proofs.policy_misplaced.Goals as goal
 
 pub returns : goal.returns

@@ -1,17 +1,12 @@
 -- Written by tools/loops.py. Assumes nothing.
 use Prim.Native.Nat.{◌-◌}
-use mathlib.Core.Path.{◌≡◌, sym, ◌∙◌}
-use native.Mathlib.Omega.{arith}
-use borrow.Author.Rules.{rules}
+use mathlib.Core.Path.{◌≡◌}
 use lib.ListN.{length}
+use Rattle.laws.specs.Lists.{rows, each, eq_list}
+use Rattle.laws.proofs.Rows.{at}
 use lib.Dec.{eqb}
 use Rattle.ascii.specs.Bytes.{lower_byte}
 use Rattle.text.specs.Texts.{taken_byte, taken, lowered}
-use Rattle.text.proofs.Laws.{taken_each}
-use Rattle.laws.specs.Lists.{rows, each, eq_list}
-use Rattle.laws.proofs.Rows.{at}
-use Rattle.laws.proofs.Loops.{each_here, each_next, each_none, each_start}
-use Rattle.laws.proofs.Equal.{each_length}
 use Rattle.text.proofs.same_lowered.Given as goal
 
 abbrev pub invariant-loop-i : goal.invariant-loop-i

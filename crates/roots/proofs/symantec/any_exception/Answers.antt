@@ -1,10 +1,5 @@
 -- Written by tools/row_loops.py. Assumes nothing.
-use Prim.Native.Nat.{◌-◌}
-use mathlib.Core.Path.{◌≡◌, refl}
-use borrow.Author.Rules.{rules}
-use Rattle.laws.specs.Lists.{rows, any}
-use Rattle.model.specs.Decode.{cert_at, lists_of}
-use Rattle.roots.specs.Symantec.{is_exception}
+use mathlib.Core.Path.{refl}
 use Rattle.laws.proofs.Loops.{any_here, any_next, any_none}
 use Rattle.roots.proofs.symantec.any_exception.Goals as goal
 

@@ -1,11 +1,9 @@
 -- Written by tools/row_loops.py. Assumes nothing.
 use Prim.Native.Nat.{◌-◌}
-use mathlib.Core.Path.{◌≡◌, refl}
-use borrow.Author.Rules.{rules}
+use mathlib.Core.Path.{◌≡◌}
 use Rattle.laws.specs.Lists.{rows, any}
 use Rattle.model.specs.Decode.{cert_at, lists_of}
 use Rattle.roots.specs.Symantec.{is_exception}
-use Rattle.laws.proofs.Loops.{any_here, any_next, any_none}
 use Rattle.roots.proofs.symantec.any_exception.Given as goal
 
 abbrev pub invariant-loop-i : goal.invariant-loop-i

@@ -1,0 +1,19 @@
+-- Each turn writes into what the turns before it left free. Written by tools/reports.py. Assumes nothing.
+use native.Mathlib.Omega.{arith}
+use mathlib.Core.Path.{ap}
+use mathlib.Core.Bool.{not}
+use Rattle.faults.proofs.Laws.{so_far_none, so_far_more, each_turn, so_far_done}
+use Rattle.writers.proofs.Laws.{each_unbroken}
+use Rattle.writers.proofs.write_each.Goals as goal
+
+pub returns-then-not-any_breaks : goal.returns-then-not-any_breaks
+returns-then-not-any_breaks c = each_unbroken _ _ _ _ _ c.any_breaks.ensures (ap not c.if-not-any_breaks.true)
+
+pub loop-i-init : goal.loop-i-init
+loop-i-init c = (omega arith, omega arith, omega arith, so_far_none _ _ _ (omega arith) (omega arith))
+
+pub loop-i-preserved : goal.loop-i-preserved
+loop-i-preserved c = (omega arith, omega arith, omega arith, so_far_more _ (omega arith) c.loop-i.invariant.3 c.write_one-t.ensures (each_turn _ _ c.loop-i.invariant.0) c.joined-tally.ensures)
+
+pub returns : goal.returns
+returns c = so_far_done _ c.loop-i.invariant.3 (omega arith)
