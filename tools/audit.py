@@ -1,11 +1,12 @@
 #!/usr/bin/env python3
 """audit.py [ROOT]: what docs/AUDIT.md promises of every public function, held to the sources. It prints each gap and fails if there is one.
 
-- A public function has a row, an `ensures` and no `requires`. Its row names two wrong bodies, and the edits that stand in bold are in a must-fail folder. A row
-  has its function, and an edit its row or its mention.
+- A public function has a row, an `ensures` and no `requires`, but for those in UNSTATED. Its row quotes each clause, as `quoted` writes it, and names two wrong bodies; the edits that stand
+  in bold are in a must-fail folder. A row has its function, and an edit its row or its mention.
 - A parameter that is a plain number stands in NUMBERS: what names a string, a certificate or a rule has a type of its own.
 - No definition in specs/ gives a symbol of the library a meaning of its own.
-- No log of a must-fail edit says that a name is missing: such an edit only unfits its proof file. The logs are those of the last `rt ci` in target/."""
+- No must-fail edit only unfits its proof file: one whose new text names what isn't there, `rt ci` calls a bad edit, and .ci/run lets none pass; one that takes a
+  name away which a proof file cites, it calls refused with a remark, and that remark must not stand in the last run's log, which .ci/run keeps in target/."""
 import pathlib
 import re
 import sys
@@ -47,21 +48,27 @@ NUMBERS = {
     "writers::write_report": {"n": "a count of certificates"},
     "faults::without": {"n": "a count of certificates", "k": "a count of certificates"},
 }
+# Functions of which no contract can say anything, and why.
+UNSTATED = {"data_file::open": "what a file gives, and whether it is there, no contract can say"}
+
 INTEGER = re.compile(r"^(u8|u16|u32|u64|usize|i64)$")
 
 # What the library means by a symbol, no definition may change.
-SYMBOLS = {"_≡_", "_<_", "_≤_", "_+_", "_-_", "_*_", "length", "take", "drop", "getD", "_&&_", "_||_", "not", "true", "false", "leb", "ltb", "eqb", "_×_", "_⊎_", "_↔_", "_++_", "map"}
+SYMBOLS = set("◌≡◌ ◌≢◌ ◌<◌ ◌≤◌ ◌+◌ ◌-◌ ◌*◌ ◌/◌ ◌%◌ ◌^◌ ◌++◌ ◌∷◌ ◌&&◌ ◌||◌ ◌==◌ ◌⊎◌ ◌↔◌ if◌then◌else◌".split())
+SYMBOLS |= set("length take drop get_or map not true false leb ltb eqb".split())
 
-FUNCTION = re.compile(r'^( *)pub (?:extern "C" )?fn (\w+)(?:<[^>]*>)?\((.*?)\)(.*?)\n\1\{', re.DOTALL | re.MULTILINE)
-DEFINED = re.compile(r"^\s*(?:unfoldable |abbrev )?(?:pub )?(?:record |data )?(\S+)\s*(?:\(.*\))?\s*:", re.MULTILINE)
+FUNCTION = re.compile(r'^( *)pub (?:extern "C" )?fn (\w+)(?:<[^(]*>)?\((.*?)\)([^\n]*\{$|.*?\n\1\{)', re.DOTALL | re.MULTILINE)
+CLAUSE = re.compile(r"^ *ensures \{(.*?)\}$", re.DOTALL | re.MULTILINE)
+DEFINED = re.compile(r"^\s*(?:(?:pub|abbrev|unfoldable|opaque|record|data) )*(\S+)\s*(?:[({].*[)}])?\s*:(?=\s)", re.MULTILINE)
 ROW = re.compile(r"^\| `([\w:]+)` \|(.*)\|$", re.MULTILINE)
 BOLD = re.compile(r"\*\*(\w+)\*\*")
+UNFIT = re.compile(r"^rt: must-fail (\S+): refused, as it must be \(only because a proof file names what the edit took away", re.MULTILINE)
 
 
 def crates():
     for line in (TOP / "crates.txt").read_text().splitlines():
         if line and not line.startswith("#"):
-            yield line.split(":")[0]
+            yield line.split(":")[0].split()[0]
 
 
 def path_of(crate, file, text, at):
@@ -87,6 +94,11 @@ def parameters(text):
             yield name.strip(), kind.strip()
 
 
+def quoted(clause):
+    """A clause as its row quotes it: what is lent stands for what it holds, with a stroke for what it holds at the end."""
+    return re.sub(r"\.(now|old|entry)\b", "", re.sub(r"\.new\b", "'", " ".join(clause.split())))
+
+
 def edits():
     """Each edit by its name, which no other has."""
     kept = {}
@@ -100,6 +112,8 @@ def edits():
 def function_gaps(rows, kept):
     seen = set()
     for name, takes, contract in functions():
+        if name in UNSTATED:
+            continue
         seen.add(name)
         if "ensures" not in contract:
             yield f"{name} has no ensures"
@@ -112,6 +126,7 @@ def function_gaps(rows, kept):
             yield f"{name} has no row in {AUDIT}"
         else:
             yield from row_gaps(name, rows[name], kept)
+            yield from (f"{name}: its row doesn't quote `{due}`" for due in map(quoted, CLAUSE.findall(contract)) if f"`{due}`" not in rows[name])
     for name in rows.keys() - seen:
         yield f"{AUDIT} has a row for {name}, and there is no such public function"
 
@@ -145,9 +160,9 @@ def symbol_gaps():
 
 
 def log_gaps():
-    for log in sorted((TOP / "target" / "must-fail").glob("*/*/.log")):
-        if "that can be named from here" in log.read_text(errors="replace"):
-            yield f"the edit {log.parent.parent.name}/{log.parent.name} only unfits its proof file"
+    log = TOP / "target" / "rt_ci.log"
+    for edit in UNFIT.findall(log.read_text(errors="replace") if log.exists() else ""):
+        yield f"the edit {edit} only unfits its proof file"
 
 
 def main():

@@ -1,4 +1,6 @@
 // Rule 14 of OpenSSL.
+#![tactic(auto)]
+
 ghost use Rattle.std.specs.Prelude.{◌≡◌, not, ◌||◌};
 ghost use Rattle.laws.specs.Lists.{all};
 ghost use Rattle.model.specs.Decode.{attribute_at, rdn_at, name_in, generals_in, cert_at};

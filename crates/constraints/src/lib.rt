@@ -1,4 +1,6 @@
 // What name constraints ask of one name, of a subject and of a SAN, for both policies.
+#![tactic(auto)]
+
 ghost use Rattle.std.specs.Prelude.{◌≡◌};
 ghost use Rattle.laws.specs.Lists.{all};
 ghost use Rattle.laws.specs.Optional.{if_there};

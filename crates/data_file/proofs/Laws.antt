@@ -1,13 +1,12 @@
--- Eight bytes as a number, and reads with and without room. Assumes nothing.
+-- Eight bytes as a number, and what a read of fewer values leaves. Assumes nothing.
 use Prim.Native.Nat.{ℕ, suc, ◌+◌, ◌-◌, ◌*◌, ◌≤◌, ◌<◌}
 use native.Mathlib.Omega.{arith}
 use mathlib.Core.Path.{◌≡◌, refl, sym, ap, subst, ◌∙◌}
-use mathlib.Core.List.{List, ◌++◌}
-use lib.ListN.{length, get_or, take, drop, length-append, length-drop, drop_of_length-le}
-use lib.Seq.{drop-cons, drop_at, drop-drop, take_all}
+use mathlib.Core.List.{List}
+use lib.ListN.{length, get_or, drop, drop_of_length-le}
+use lib.Seq.{drop-cons, drop-drop}
 use Rattle.data_file.specs.DataFile.{word_of, Filled, Begins}
 use Rattle.data_file.specs.declared.Got.{Got}
-use Rattle.data_file.specs.declared.Got.TheVariants.{All, Less}
 
 -- the number of the bytes from i on
 from_byte : (b : List ℕ) (i : ℕ) → i < length b → word_of (drop i b) ≡ get_or b i 0 + 256 * word_of (drop (suc i) b)
@@ -22,33 +21,6 @@ past_bytes b h = rw (drop_of_length-le b h) refl
 pub two_halves : (b : List ℕ) → length b ≡ 8 → {low high : ℕ} → low ≡ get_or b 0 0 + 256 * (get_or b 1 0 + 256 * (get_or b 2 0 + 256 * get_or b 3 0)) → high ≡ get_or b 4 0 + 256 * (get_or b 5 0 + 256 * (get_or b 6 0 + 256 * get_or b 7 0)) → low + 4294967296 * high ≡ word_of b
 two_halves b e {low = low} {high = high} l h =
     omega (arith, from_byte b 0 (omega arith), from_byte b 1 (omega arith), from_byte b 2 (omega arith), from_byte b 3 (omega arith), from_byte b 4 (omega arith), from_byte b 5 (omega arith), from_byte b 6 (omega arith), from_byte b 7 (omega arith), past_bytes b (omega arith))
-
-module _ (n : ℕ) (old : List ℕ) where
-  pub too_long : length old < n → Filled n old old Less
-  too_long h = record { rest_stays = refl; no_room = λ _. (refl, refl); none_asked = λ z. absurd (omega arith) }
-
-  pub got_all : (new : List ℕ) → n ≤ length old → drop n new ≡ drop n old → Filled n old new All
-  got_all new l s = record { rest_stays = s; no_room = λ h. absurd (omega arith); none_asked = λ _. refl }
-
-  pub got_part : (new : List ℕ) (got : Got) → n ≤ length old → 0 < n → drop n new ≡ drop n old → Filled n old new got
-  got_part new got l p s = record { rest_stays = s; no_room = λ h. absurd (omega arith); none_asked = λ z. absurd (omega arith) }
-
--- ---- the n places written over
-module _ (n : ℕ) (old front : List ℕ) (l : n ≤ length old) (e : length (front ++ drop n old) ≡ length old) where
-  fills : length front ≡ n
-  fills = omega (arith, simp (length-append, length-drop) at e)
-
-  stays : drop n (front ++ drop n old) ≡ drop n old
-  stays = drop_at front (drop n old) n fills
-
-  pub over_all : Filled n old (front ++ drop n old) All
-  over_all = got_all n old (front ++ drop n old) l stays
-
-  pub over_part : {k : ℕ} (got : Got) → k ≤ length front → (k ≡ n → ⊥) → Filled n old (front ++ drop n old) got
-  over_part got k d = got_part n old (front ++ drop n old) got l (omega (arith, fills)) stays
-
-pub whole : (n : ℕ) (l : List ℕ) → length l ≤ n → l ≡ take n l
-whole n l h = sym (take_all n l h)
 
 -- what stands behind more values stays too
 pub begins : {k : ℕ} (n : ℕ) {old new : List ℕ} {got : Got} → Filled k old new got → k ≤ n → n ≤ length old → Begins n old new

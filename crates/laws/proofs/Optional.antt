@@ -1,7 +1,7 @@
 -- What the tests of what may be absent mean. Assumes nothing.
 use mathlib.Core.Path.{◌≡◌, refl}
 use mathlib.Core.Logic.{◌↔◌}
-use mathlib.Core.Bool.{Bool, true, false, false≢true}
+use mathlib.Core.Bool.{Bool, true, false≢true}
 use mathlib.Core.Option.{Option, none, some}
 use Rattle.laws.specs.Optional.{if_there, there_and, is_there}
 

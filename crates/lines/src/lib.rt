@@ -1,4 +1,6 @@
 // What the tables ask of the words of the rows of the two bundles, line by line.
+#![tactic(auto)]
+
 ghost use Rattle.std.specs.Prelude.{◌≡◌};
 ghost use Rattle.model.specs.Sections.{entries};
 ghost use Rattle.sections.specs.Found.{earlier_of, found_each};

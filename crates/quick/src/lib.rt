@@ -1,4 +1,6 @@
 // Whether nothing is wrong with a bundle, asked row by row, everything of a row at once. Which word is wrong, where one is, the search says.
+#![tactic(auto)]
+
 ghost use Rattle.std.specs.Prelude.{◌≡◌, true, not, ◌&&◌, List, ℕ, ◌+◌, ◌*◌, ◌≤◌, ◌<◌, leb, ltb, length};
 ghost use Rattle.laws.specs.Lists.{numbers, all};
 ghost use Rattle.table.specs.Table.{word as word_of, count_of, strings as stringRows};

@@ -1,4 +1,6 @@
 // Whether the rows of C are right, asked row by row, everything of a certificate at once.
+#![tactic(auto)]
+
 ghost use Rattle.std.specs.Prelude.{◌≡◌, not, ◌&&◌, List, ℕ, ◌+◌, ◌*◌, ◌≤◌, ◌<◌, ltb, length, take, drop};
 ghost use Rattle.laws.specs.Lists.{numbers, all};
 ghost use Rattle.table.specs.Table.{word as word_of, count_of, strings as stringRows};

@@ -4,8 +4,10 @@
 // - the chain's bundle, and then the policy's, as `data_file` reads them; for OpenSSL the policy's is empty;
 // - three numbers: the policy (0 OpenSSL, 1 Chrome), the words lent for the report, how many words follow;
 // - the eight words of the answer, the words written in the report.
+#![tactic(auto)]
+
 use data_file::{Got, Read};
-use libc::STDOUT_FILENO;
+use std::io;
 
 // What stands in each word of a report before a judgement. No judge writes this number.
 const UNWRITTEN: u32 = 2779096485;
@@ -24,41 +26,45 @@ enum Turn {
 
 // ---- writing
 
-fn print(text: &[u8]) {
-    io::write_all(STDOUT_FILENO, text);
+fn print<W: io::Write>(out: &mut W, text: &[u8]) -> io::Result<()> {
+    out.write_all(text)
 }
 
-fn print_number(n: u64) {
-    print(b" ");
-    io::print_decimal(STDOUT_FILENO, n);
+fn print_number<W: io::Write>(out: &mut W, n: u64) -> io::Result<()> {
+    write!(out, " {n}")
 }
 
-fn print_difference(what: &[u8], at: usize, is: u64, due: u64) {
-    print(what);
-    print_number(at as u64);
-    print_number(is);
-    print_number(due);
-    print(b"\n");
+fn print_difference<W: io::Write>(
+    out: &mut W,
+    what: &[u8],
+    at: usize,
+    is: u64,
+    due: u64,
+) -> io::Result<()> {
+    print(out, what)?;
+    print_number(out, at as u64)?;
+    print_number(out, is)?;
+    print_number(out, due)?;
+    print(out, b"\n")
 }
 
-fn print_policy(which: usize) {
+fn print_policy<W: io::Write>(out: &mut W, which: usize) -> io::Result<()> {
     match which {
-        0 => print(b"OpenSSL"),
-        1 => print(b"Chrome"),
-        _ => print(b"Chrome on the policy"),
+        0 => print(out, b"OpenSSL"),
+        1 => print(out, b"Chrome"),
+        _ => print(out, b"Chrome on the policy"),
     }
 }
 
-fn print_counts(counts: &[u64; 27]) {
-    let mut at: usize = 0;
-    while at < 27 {
-        print_policy(at / 9);
-        print_number((at % 9) as u64);
-        print(b":");
-        print_number(counts[at]);
-        print(b"\n");
-        at += 1;
+fn print_counts<W: io::Write>(out: &mut W, counts: &[u64; 27]) -> io::Result<()> {
+    for at in 0..27 {
+        print_policy(out, at / 9)?;
+        print_number(out, (at % 9) as u64)?;
+        print(out, b":")?;
+        print_number(out, counts[at])?;
+        print(out, b"\n")?;
     }
+    Ok(())
 }
 
 // ---- comparing
@@ -82,33 +88,29 @@ fn wide(x: u32) -> u64 {
 }
 
 // Whether the answer is the one that is due. The first word that isn't is told.
-fn is_answer(answer: &[u64; 8], due: &[u64]) -> bool {
-    let mut i = 0;
-    while i < 8 {
+fn is_answer<W: io::Write>(out: &mut W, answer: &[u64; 8], due: &[u64]) -> io::Result<bool> {
+    for i in 0..8 {
         let is = answer[i];
         let should = table::word(due, i);
         if is != should {
-            print_difference(b"answer: word, is, due:", i, is, should);
-            return false;
+            print_difference(out, b"answer: word, is, due:", i, is, should)?;
+            return Ok(false);
         }
-        i += 1;
     }
-    true
+    Ok(true)
 }
 
 // Whether the report is the one that is due, behind the answer. The first word that isn't is told.
-fn is_report(report: &[u32], due: &[u64]) -> bool {
-    let mut i = 0;
-    while i < report.len() {
+fn is_report<W: io::Write>(out: &mut W, report: &[u32], due: &[u64]) -> io::Result<bool> {
+    for i in 0..report.len() {
         let is = wide(report[i]);
         let should = table::word(due, 8 + i);
         if is != should {
-            print_difference(b"report: word, is, due:", i, is, should);
-            return false;
+            print_difference(out, b"report: word, is, due:", i, is, should)?;
+            return Ok(false);
         }
-        i += 1;
     }
-    true
+    Ok(true)
 }
 
 // ---- judging
@@ -139,63 +141,76 @@ fn judge(
 }
 
 // Judges with as many words lent as are asked for, and compares.
-fn replay(
+fn replay<W: io::Write>(
+    out: &mut W,
     asked: &[u64; 3],
     due: &[u64],
     words: &[u64],
     bytes: &[u8],
     pwords: &[u64],
     pbytes: &[u8],
-) -> Turn {
+) -> io::Result<Turn> {
     let mut answer = [UNWRITTEN_WORD; 8];
     let mut report = [UNWRITTEN; 1300];
     let room = lent(&mut report, asked[1] as usize);
     judge(asked[0], words, bytes, pwords, pbytes, room, &mut answer);
-    if !is_answer(&answer, due) {
-        return Turn::End;
+    if !is_answer(out, &answer, due)? {
+        return Ok(Turn::End);
     }
-    if !is_report(&report, due) {
-        return Turn::End;
+    if !is_report(out, &report, due)? {
+        return Ok(Turn::End);
     }
-    Turn::Agreed(counted_at(asked[0], answer[1], answer[0]))
+    Ok(Turn::Agreed(counted_at(asked[0], answer[1], answer[0])))
 }
 
 // ---- reading
 
 // Reads what is due. Words of the report that aren't written are due as they were.
-fn with_due(fd: i32, words: &[u64], bytes: &[u8], pwords: &[u64], pbytes: &[u8]) -> Turn {
+fn with_due<R: io::Read, W: io::Write>(
+    file: &mut R,
+    out: &mut W,
+    words: &[u64],
+    bytes: &[u8],
+    pwords: &[u64],
+    pbytes: &[u8],
+) -> io::Result<Turn> {
     let mut asked = [0u64; 3];
     let mut due = [UNWRITTEN_WORD; 1308];
-    let Got::All = data_file::read_words(fd, &mut asked, 3) else {
-        return Turn::End;
+    let Got::All = data_file::read_words(file, &mut asked, 3) else {
+        return Ok(Turn::End);
     };
-    let Got::All = data_file::read_words(fd, &mut due, asked[2] as usize) else {
-        return Turn::End;
+    let Got::All = data_file::read_words(file, &mut due, asked[2] as usize) else {
+        return Ok(Turn::End);
     };
-    replay(&asked, &due, words, bytes, pwords, pbytes)
+    replay(out, &asked, &due, words, bytes, pwords, pbytes)
 }
 
-fn with_policy(fd: i32, words: &[u64], bytes: &[u8]) -> Turn {
+fn with_policy<R: io::Read, W: io::Write>(
+    file: &mut R,
+    out: &mut W,
+    words: &[u64],
+    bytes: &[u8],
+) -> io::Result<Turn> {
     let mut pwords = [0u64; 8193];
     let mut pbytes = [0u8; 65537];
-    let Read::Is(size) = data_file::read_bundle(fd, &mut pwords, &mut pbytes) else {
-        return Turn::End;
+    let Read::Is(size) = data_file::read_bundle(file, &mut pwords, &mut pbytes) else {
+        return Ok(Turn::End);
     };
     let all_pwords = data_file::words_to(&pwords, size.words);
     let all_pbytes = table::cut(&pbytes, 0, size.bytes as u64);
-    with_due(fd, words, bytes, all_pwords, all_pbytes)
+    with_due(file, out, words, bytes, all_pwords, all_pbytes)
 }
 
 // The arrays have one word and one byte more than a bundle may have, so that it can be too large.
-fn replay_next(fd: i32) -> Turn {
+fn replay_next<R: io::Read, W: io::Write>(file: &mut R, out: &mut W) -> io::Result<Turn> {
     let mut words = [0u64; 8193];
     let mut bytes = [0u8; 65537];
-    let Read::Is(size) = data_file::read_bundle(fd, &mut words, &mut bytes) else {
-        return Turn::End;
+    let Read::Is(size) = data_file::read_bundle(file, &mut words, &mut bytes) else {
+        return Ok(Turn::End);
     };
     let all_words = data_file::words_to(&words, size.words);
     let all_bytes = table::cut(&bytes, 0, size.bytes as u64);
-    with_policy(fd, all_words, all_bytes)
+    with_policy(file, out, all_words, all_bytes)
 }
 
 fn count(counts: &mut [u64; 27], at: usize) {
@@ -209,30 +224,30 @@ fn count(counts: &mut [u64; 27], at: usize) {
 }
 
 // A proved loop has to end, and nothing says that a file does: it counts up to a number that no run reaches.
-fn replay_all(fd: i32, counts: &mut [u64; 27]) -> u64 {
+fn replay_all<R: io::Read, W: io::Write>(
+    file: &mut R,
+    out: &mut W,
+    counts: &mut [u64; 27],
+) -> io::Result<u64> {
     let mut cases: u64 = 0;
     while cases < u64::MAX {
-        let turn = replay_next(fd);
+        let turn = replay_next(file, out)?;
         match turn {
             Turn::Agreed(at) => count(counts, at),
             Turn::End => break,
         }
         cases += 1;
     }
-    cases
+    Ok(cases)
 }
 
-fn main() {
-    let fd = os::open_read(b"cases");
-    if fd < 0 {
-        os::fail(b"cases");
-        return;
-    }
+fn main(rt: HostRuntime) -> io::Result<()> {
+    let mut out = io::writer(&rt);
+    let mut file = data_file::open(&rt, "cases")?;
     let mut counts = [0u64; 27];
-    let cases = replay_all(fd, &mut counts);
-    libc::close(fd);
-    print_counts(&counts);
-    print(b"cases:");
-    print_number(cases);
-    print(b"\n");
+    let cases = replay_all(&mut file, &mut out, &mut counts)?;
+    print_counts(&mut out, &counts)?;
+    print(&mut out, b"cases:")?;
+    print_number(&mut out, cases)?;
+    print(&mut out, b"\n")
 }

@@ -1,4 +1,6 @@
 // Whether a bundle is sound, and else which refusal is due at which word. Nearly every bundle is sound, so that this is asked first; the search goes line by line.
+#![tactic(auto)]
+
 ghost use Rattle.std.specs.Prelude.{◌≡◌, not, eqb, ltb};
 ghost use Rattle.table.specs.Table.{word as word_of, count_of};
 ghost use Rattle.model.specs.Sections.{certs};

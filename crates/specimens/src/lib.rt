@@ -1,1 +1,3 @@
 // Theorems only: the specimens of document 01 stand in specs/, their proofs in proofs/.
+#![tactic(auto)]
+

@@ -1,6 +1,5 @@
 use native.Mathlib.Omega.{arith}
 use Rattle.ascii.proofs.Chars.{entry_class}
-use borrow.Author.Rules.{rules}
 use Rattle.ascii.proofs.class_of.Goals as goal
 
 pub returns : goal.returns

@@ -1,10 +1,6 @@
-use Prim.Native.Nat.{◌+◌, ◌-◌}
 use native.Mathlib.Omega.{arith}
-use mathlib.Core.Path.{◌≡◌}
-use borrow.Author.Rules.{rules}
-use lib.ListN.{length}
 use Rattle.ascii.specs.Bytes.{is_high}
-use Rattle.ascii.proofs.Blocks.{NoneTo, none_yet, block_here, block_next, block_last}
+use Rattle.ascii.proofs.Blocks.{none_yet, block_here, block_next, block_last}
 use Rattle.ascii.proofs.has_high.Goals as goal
 
 pub returns-then-s-lt8 : goal.returns-then-s-lt8

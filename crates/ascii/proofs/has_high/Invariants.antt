@@ -1,10 +1,8 @@
 use Prim.Native.Nat.{◌+◌, ◌-◌}
-use native.Mathlib.Omega.{arith}
 use mathlib.Core.Path.{◌≡◌}
-use borrow.Author.Rules.{rules}
 use lib.ListN.{length}
 use Rattle.ascii.specs.Bytes.{is_high}
-use Rattle.ascii.proofs.Blocks.{NoneTo, none_yet, block_here, block_next, block_last}
+use Rattle.ascii.proofs.Blocks.{NoneTo}
 use Rattle.ascii.proofs.has_high.Given as goal
 
 -- none of the bytes that were passed is high

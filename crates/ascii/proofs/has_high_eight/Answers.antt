@@ -1,4 +1,3 @@
-use borrow.Author.Rules.{rules}
 use Rattle.ascii.proofs.Blocks.{any_eight}
 use Rattle.ascii.proofs.has_high_eight.Goals as goal
 

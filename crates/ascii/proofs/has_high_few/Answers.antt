@@ -1,9 +1,4 @@
-use borrow.Author.Rules.{rules}
-use Prim.Native.Nat.{◌-◌}
-use mathlib.Core.Path.{◌≡◌, refl}
-use mathlib.Core.Bool.{◌||◌}
-use lib.ListN.{length}
-use Rattle.laws.specs.Lists.{rows, any}
+use mathlib.Core.Path.{refl}
 use Rattle.laws.proofs.Rows.{at}
 use Rattle.laws.proofs.Loops.{any_start, any_more, any_counted}
 use Rattle.ascii.specs.Bytes.{is_high}

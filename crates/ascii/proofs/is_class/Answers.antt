@@ -3,7 +3,6 @@ use mathlib.Core.Path.{ap}
 use Prim.Native.Nat.{ℕ}
 use lib.Dec.{eqb}
 use Rattle.ascii.proofs.Chars.{entry_class}
-use borrow.Author.Rules.{rules}
 use Rattle.ascii.proofs.is_class.Goals as goal
 
 pub returns : goal.returns

@@ -5,7 +5,6 @@ use mathlib.Core.Bool.{◌&&◌}
 use lib.Dec.{leb}
 use Rattle.ascii.specs.Bytes.{letter, dot}
 use Rattle.ascii.proofs.Chars.{entry_class, class_host}
-use borrow.Author.Rules.{rules}
 use Rattle.ascii.proofs.is_host_byte.Goals as goal
 
 pub returns : goal.returns

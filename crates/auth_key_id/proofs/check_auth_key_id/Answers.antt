@@ -1,6 +1,5 @@
 use mathlib.Core.Path.{sym, ap₂, ◌∙◌}
 use mathlib.Core.Bool.{◌&&◌}
-use borrow.Author.Rules.{rules}
 use Rattle.model.proofs.Optional.{absent_passes, present_passes}
 use Rattle.auth_key_id.specs.AuthKeyId.{check_auth_key_id}
 use Rattle.auth_key_id.proofs.check_auth_key_id.Goals as goal

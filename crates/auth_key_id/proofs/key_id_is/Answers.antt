@@ -1,5 +1,4 @@
 use mathlib.Core.Path.{sym, ◌∙◌}
-use borrow.Author.Rules.{rules}
 use Rattle.model.proofs.Optional.{absent_passes, present_passes}
 use Rattle.auth_key_id.specs.AuthKeyId.{key_id_is}
 use Rattle.auth_key_id.proofs.key_id_is.Goals as goal

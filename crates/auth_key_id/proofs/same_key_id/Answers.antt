@@ -1,5 +1,4 @@
 use mathlib.Core.Path.{sym, ◌∙◌}
-use borrow.Author.Rules.{rules}
 use Rattle.model.specs.Decode.{optional_string}
 use Rattle.model.proofs.Optional.{absent_passes, present_passes}
 use Rattle.auth_key_id.specs.AuthKeyId.{same_key_id}

@@ -1,4 +1,3 @@
-use borrow.Author.Rules.{rules}
 use Rattle.auth_key_id.proofs.same_strings.Goals as goal
 
 pub returns : goal.returns

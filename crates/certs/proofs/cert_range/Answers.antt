@@ -1,7 +1,6 @@
 use Rattle.table.proofs.Laws.{first_is, second_is}
 use Rattle.model.specs.Sections.{certs}
 use Rattle.model.specs.Decode.{cert_word, cert_range}
-use borrow.Author.Rules.{rules}
 use Rattle.certs.proofs.cert_range.Goals as goal
 
 pub returns : goal.returns

@@ -1,5 +1,4 @@
 use Rattle.model.specs.Decode.{cert_word}
-use borrow.Author.Rules.{rules}
 use Rattle.certs.proofs.cert_word.Goals as goal
 
 pub returns : goal.returns

@@ -1,6 +1,5 @@
 use native.Mathlib.Omega.{arith}
 use Rattle.certs.proofs.TwosComplement.{signed_small, lacks_fits, signed_large}
-use borrow.Author.Rules.{rules}
 use Rattle.certs.proofs.signed.Goals as goal
 
 pub returns-then-word-lt9223372036854775808 : goal.returns-then-word-lt9223372036854775808

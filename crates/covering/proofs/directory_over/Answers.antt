@@ -1,6 +1,5 @@
 use Rattle.sans.proofs.Laws.{directory_and_law, kind_then, kind_other}
 use Rattle.covering.specs.Covers.{over_directory}
-use borrow.Author.Rules.{rules}
 use Rattle.covering.proofs.directory_over.Goals as goal
 
 pub returns-then-is_kind : goal.returns-then-is_kind

@@ -1,6 +1,5 @@
 use Rattle.sans.proofs.Laws.{ip_and_law, kind_then, kind_other}
 use Rattle.covering.specs.Covers.{over_ip}
-use borrow.Author.Rules.{rules}
 use Rattle.covering.proofs.ip_over.Goals as goal
 
 pub returns-then-is_kind : goal.returns-then-is_kind

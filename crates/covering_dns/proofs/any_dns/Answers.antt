@@ -1,5 +1,4 @@
 use Rattle.model.specs.Decode.{generals_in}
-use borrow.Author.Rules.{rules}
 use Rattle.covering_dns.proofs.any_dns.Goals as goal
 
 pub any_in-requires : goal.any_in-requires

@@ -1,6 +1,5 @@
 use Rattle.sans.proofs.Laws.{dns_and_law, kind_then, kind_other}
 use Rattle.covering_dns.specs.Covers.{over_dns}
-use borrow.Author.Rules.{rules}
 use Rattle.covering_dns.proofs.covers.Goals as goal
 
 pub returns-then-is_kind : goal.returns-then-is_kind

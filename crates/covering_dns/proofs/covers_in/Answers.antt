@@ -1,5 +1,4 @@
 use Rattle.covering_dns.proofs.Laws.{kind_dns, kind_no_dns}
-use borrow.Author.Rules.{rules}
 use Rattle.covering_dns.proofs.covers_in.Goals as goal
 
 pub returns-then-kind_in-eq0 : goal.returns-then-kind_in-eq0

@@ -1,5 +1,4 @@
 use Rattle.covering_dns.proofs.Laws.{lowered_covers, cleaned_covers}
-use borrow.Author.Rules.{rules}
 use Rattle.covering_dns.proofs.dns_covers.Goals as goal
 
 pub returns-in-Lowered : goal.returns-in-Lowered

@@ -1,5 +1,4 @@
 use Rattle.covering_dns.proofs.Laws.{kind_at_law}
-use borrow.Author.Rules.{rules}
 use Rattle.covering_dns.proofs.kind_in.Goals as goal
 
 pub returns : goal.returns

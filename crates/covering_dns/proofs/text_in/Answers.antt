@@ -1,5 +1,4 @@
 use Rattle.covering_dns.proofs.Laws.{text_at, string_at}
-use borrow.Author.Rules.{rules}
 use Rattle.covering_dns.proofs.text_in.Goals as goal
 
 pub returns-then-x-at : goal.returns-then-x-at

@@ -1,14 +1,8 @@
-use borrow.Author.Rules.{rules}
-use native.Mathlib.Omega.{arith}
-use Prim.Native.Nat.{◌-◌, ◌≤◌}
-use lib.ListN.{length, drop}
-use lib.Seq.{drop-set-lt}
-use mathlib.Core.Path.{◌≡◌, refl, ◌∙◌}
-use Rattle.data_file.proofs.Laws.{too_long, got_all, got_part}
+use Rattle.std.proofs.Common.{◌-◌, ◌≤◌, ◌≡◌, length, drop}
 use Rattle.data_file.proofs.read_words.Given as goal
 
 abbrev pub invariant-loop-i : goal.invariant-loop-i
-invariant-loop-i l = (length l.words ≡ length l.initial.words) × (l.n ≤ length l.initial.words) × (drop l.n l.words ≡ drop l.n l.initial.words)
+invariant-loop-i g l = record { room : l.n ≤ length l.initial.words; stays : drop l.n l.words ≡ drop l.n l.initial.words }
 
 abbrev pub decreases-loop-i : goal.decreases-loop-i
-decreases-loop-i l = l.n - l.i
+decreases-loop-i g l = l.n - l.i

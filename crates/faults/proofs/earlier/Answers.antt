@@ -1,6 +1,5 @@
 -- The first entry of two writers. Assumes nothing.
 use mathlib.Core.Path.{refl}
-use borrow.Author.Rules.{rules}
 use Rattle.faults.proofs.earlier.Goals as goal
 
 pub returns-in-Broken : goal.returns-in-Broken

@@ -1,6 +1,5 @@
 -- What two writers hand back together. Assumes nothing.
 use mathlib.Core.Path.{refl}
-use borrow.Author.Rules.{rules}
 use Rattle.faults.proofs.joined.Goals as goal
 
 pub returns : goal.returns

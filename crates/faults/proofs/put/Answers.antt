@@ -1,6 +1,5 @@
 -- An entry where the test holds. Assumes nothing.
 use Rattle.faults.proofs.Laws.{put_none, put_one}
-use borrow.Author.Rules.{rules}
 use Rattle.faults.proofs.put.Goals as goal
 
 pub returns-then-broken : goal.returns-then-broken

@@ -3,7 +3,6 @@ use native.Mathlib.Omega.{arith}
 use mathlib.Core.Path.{refl}
 use lib.ListN.{length-set}
 use Rattle.faults.proofs.Laws.{put_cut, put_fits}
-use borrow.Author.Rules.{rules}
 use Rattle.faults.proofs.put_entry.Goals as goal
 
 pub returns-then-report-lt3 : goal.returns-then-report-lt3

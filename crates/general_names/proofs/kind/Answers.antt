@@ -1,5 +1,4 @@
 use Rattle.model.specs.Decode.{kind_at}
-use borrow.Author.Rules.{rules}
 use Rattle.general_names.proofs.kind.Goals as goal
 
 pub returns : goal.returns

@@ -1,7 +1,6 @@
 use Rattle.table.proofs.Laws.{first_is, second_is}
 use Rattle.model.specs.Sections.{names}
 use Rattle.model.specs.Decode.{name_range}
-use borrow.Author.Rules.{rules}
 use Rattle.general_names.proofs.name_range.Goals as goal
 
 pub returns : goal.returns

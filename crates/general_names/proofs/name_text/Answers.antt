@@ -1,5 +1,4 @@
 use Rattle.model.specs.Decode.{name_text}
-use borrow.Author.Rules.{rules}
 use Rattle.general_names.proofs.name_text.Goals as goal
 
 pub returns : goal.returns

@@ -2,7 +2,6 @@ use mathlib.Core.Path.{ap}
 use mathlib.Core.Bool.{not}
 use Rattle.laws.proofs.Tests.{and_then, and_stop, or_then, or_stop}
 use Rattle.hosts.specs.Hostname.{check_hostname}
-use borrow.Author.Rules.{rules}
 use Rattle.hosts.proofs.check_hostname.Goals as goal
 
 pub returns-then-san_names : goal.returns-then-san_names

@@ -1,6 +1,5 @@
 use Rattle.laws.proofs.Tests.{and_then, and_stop}
 use Rattle.sans.specs.Sans.{common_and}
-use borrow.Author.Rules.{rules}
 use Rattle.hosts.proofs.common_names.Goals as goal
 
 pub returns-then-is_common : goal.returns-then-is_common

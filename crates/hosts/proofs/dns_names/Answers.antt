@@ -1,5 +1,4 @@
 use Rattle.sans.proofs.Laws.{dns_and_law, kind_then, kind_other}
-use borrow.Author.Rules.{rules}
 use Rattle.hosts.proofs.dns_names.Goals as goal
 
 pub returns-then-is_kind : goal.returns-then-is_kind

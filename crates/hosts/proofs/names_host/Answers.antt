@@ -1,7 +1,6 @@
 use Rattle.laws.proofs.Tests.{and_then, and_stop}
 use Rattle.text.specs.Texts.{taken, lowered}
 use Rattle.hosts.specs.Hostname.{names_host}
-use borrow.Author.Rules.{rules}
 use Rattle.hosts.proofs.names_host.Goals as goal
 
 pub returns-then-check_valid_pattern : goal.returns-then-check_valid_pattern

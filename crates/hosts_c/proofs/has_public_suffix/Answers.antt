@@ -1,5 +1,4 @@
 use Rattle.hosts_c.specs.SanHost.{has_public_suffix}
-use borrow.Author.Rules.{rules}
 use Rattle.hosts_c.proofs.has_public_suffix.Goals as goal
 
 pub returns : goal.returns

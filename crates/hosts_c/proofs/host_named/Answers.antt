@@ -2,7 +2,6 @@ use mathlib.Core.Path.{sym, ◌∙◌}
 use Rattle.model.specs.Decode.{optional_string}
 use Rattle.model.proofs.Optional.{absent_passes, present_passes}
 use Rattle.hosts_c.specs.SanHost.{host_named}
-use borrow.Author.Rules.{rules}
 use Rattle.hosts_c.proofs.host_named.Goals as goal
 
 pub returns-then-h-eq0 : goal.returns-then-h-eq0

@@ -1,5 +1,4 @@
 use Rattle.hosts_c.specs.SanHost.{match_san}
-use borrow.Author.Rules.{rules}
 use Rattle.hosts_c.proofs.match_san.Goals as goal
 
 pub returns : goal.returns

@@ -1,6 +1,5 @@
 use mathlib.Core.Path.{sym, ◌∙◌}
 use Rattle.model.proofs.Optional.{absent_fails, present_and}
-use borrow.Author.Rules.{rules}
 use Rattle.hosts_c.proofs.match_san_domain.Goals as goal
 
 pub returns-then-cert_word-eq0 : goal.returns-then-cert_word-eq0

@@ -1,6 +1,5 @@
 use Rattle.text.specs.Texts.{taken, lowered}
 use Rattle.hosts_c.proofs.Laws.{clean_equals, clean_matches}
-use borrow.Author.Rules.{rules}
 use Rattle.hosts_c.proofs.names_clean.Goals as goal
 
 pub returns-then-exact : goal.returns-then-exact

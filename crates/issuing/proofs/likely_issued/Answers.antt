@@ -1,4 +1,3 @@
-use borrow.Author.Rules.{rules}
 use Rattle.laws.proofs.Tests.{and_then, and_stop}
 use Rattle.issuing.specs.Issuing.{likely_issued}
 use Rattle.issuing.proofs.likely_issued.Goals as goal

@@ -1,4 +1,3 @@
-use borrow.Author.Rules.{rules}
 use Rattle.issuing.proofs.same_names.Goals as goal
 
 pub returns : goal.returns

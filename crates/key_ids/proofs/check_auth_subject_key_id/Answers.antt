@@ -1,4 +1,3 @@
-use borrow.Author.Rules.{rules}
 use Rattle.laws.proofs.Tests.{and_then, and_stop}
 use Rattle.key_ids.specs.KeyIds.{check_auth_subject_key_id}
 use Rattle.key_ids.proofs.Laws.{from_two, below_two}

@@ -1,4 +1,3 @@
-use borrow.Author.Rules.{rules}
 use Rattle.laws.specs.Optional.{is_there}
 use Rattle.model.specs.Model.{Aki}
 use Rattle.model.specs.Decode.{optional_string}

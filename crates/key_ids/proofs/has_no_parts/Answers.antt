@@ -1,6 +1,5 @@
 use mathlib.Core.Path.{ap₂}
 use mathlib.Core.Bool.{◌&&◌}
-use borrow.Author.Rules.{rules}
 use Rattle.key_ids.specs.KeyIds.{has_no_parts}
 use Rattle.model.proofs.Optional.{is_absent}
 use Rattle.key_ids.proofs.Laws.{no_extensions_law}

@@ -1,6 +1,5 @@
 use mathlib.Core.Path.{refl, ap₂}
 use mathlib.Core.Bool.{◌&&◌}
-use borrow.Author.Rules.{rules}
 use Rattle.key_ids.specs.KeyIds.{ids_not_critical}
 use Rattle.model.proofs.Marks.{not_critical_law}
 use Rattle.key_ids.proofs.ids_not_critical.Goals as goal

@@ -1,5 +1,4 @@
 use Rattle.text.proofs.Theorems.{taken_as_given}
-use borrow.Author.Rules.{rules}
 use Rattle.lists.proofs.entry_matches.Goals as goal
 
 pub returns : goal.returns

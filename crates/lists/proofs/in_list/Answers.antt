@@ -1,5 +1,4 @@
 use Rattle.model.specs.Decode.{list_at}
-use borrow.Author.Rules.{rules}
 use Rattle.lists.proofs.in_list.Goals as goal
 
 pub returns : goal.returns

@@ -1,5 +1,4 @@
 use Rattle.names.proofs.Laws.{longer, no_longer}
-use borrow.Author.Rules.{rules}
 use Rattle.names.proofs.is_subtree_rdn.Goals as goal
 
 pub returns-then-size : goal.returns-then-size

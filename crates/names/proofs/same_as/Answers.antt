@@ -1,5 +1,4 @@
 use Rattle.names.proofs.Laws.{oids_equal, oids_differ}
-use borrow.Author.Rules.{rules}
 use Rattle.names.proofs.same_as.Goals as goal
 
 pub returns-then-same : goal.returns-then-same

@@ -1,4 +1,3 @@
-use borrow.Author.Rules.{rules}
 use Rattle.names.proofs.Numbers.{numbers_same}
 use Rattle.names.proofs.same_attr.Goals as goal
 

@@ -1,7 +1,6 @@
 use mathlib.Core.Path.{ap₂}
 use mathlib.Core.Bool.{◌&&◌}
 use lib.Dec.{eqb}
-use borrow.Author.Rules.{rules}
 use Rattle.table.proofs.Laws.{first_is, second_is}
 use Rattle.model.specs.Sections.{attributes}
 use Rattle.names.specs.Numbers.{same_numbers}

@@ -1,4 +1,3 @@
-use borrow.Author.Rules.{rules}
 use Rattle.names.proofs.same_rdn.Goals as goal
 
 pub returns : goal.returns

@@ -1,5 +1,4 @@
 use Rattle.names.proofs.Laws.{as_given, normalised}
-use borrow.Author.Rules.{rules}
 use Rattle.names.proofs.same_value.Goals as goal
 
 pub returns-in-AsGiven : goal.returns-in-AsGiven

@@ -1,7 +1,6 @@
 use native.Mathlib.Omega.{arith}
 use Rattle.ascii.proofs.Chars.{entry_class, entry_lower}
 use Rattle.normal.proofs.Forms.{step_end, step_byte, step_space, space_is}
-use borrow.Author.Rules.{rules}
 use Rattle.normal.proofs.advance.Goals as goal
 
 pub returns-then-s-i : goal.returns-then-s-i

@@ -5,7 +5,6 @@ use mathlib.Core.Bool.{not}
 use lib.Dec.{eqb}
 use Rattle.ascii.specs.Bytes.{space}
 use Rattle.ascii.proofs.Chars.{entry_class, class_space}
-use borrow.Author.Rules.{rules}
 use Rattle.normal.proofs.is_no_space.Goals as goal
 
 pub returns : goal.returns

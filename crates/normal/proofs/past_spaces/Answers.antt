@@ -1,8 +1,4 @@
-use borrow.Author.Rules.{rules}
-use Prim.Native.Nat.{◌-◌}
-use mathlib.Core.Path.{◌≡◌, refl}
-use lib.ListN.{length}
-use Rattle.laws.specs.Lists.{least}
+use mathlib.Core.Path.{refl}
 use Rattle.laws.proofs.Loops.{least_here, least_next, least_none}
 use Rattle.normal.specs.Walk.{no_space_at}
 use Rattle.normal.proofs.past_spaces.Goals as goal

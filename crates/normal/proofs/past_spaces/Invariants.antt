@@ -1,9 +1,7 @@
-use borrow.Author.Rules.{rules}
 use Prim.Native.Nat.{◌-◌}
-use mathlib.Core.Path.{◌≡◌, refl}
+use mathlib.Core.Path.{◌≡◌}
 use lib.ListN.{length}
 use Rattle.laws.specs.Lists.{least}
-use Rattle.laws.proofs.Loops.{least_here, least_next, least_none}
 use Rattle.normal.specs.Walk.{no_space_at}
 use Rattle.normal.proofs.past_spaces.Given as goal
 

@@ -1,13 +1,10 @@
-use borrow.Author.Rules.{rules}
 use Prim.Native.Nat.{◌-◌, ◌≤◌}
-use native.Mathlib.Omega.{arith}
 use mathlib.Core.Path.{◌≡◌}
 use mathlib.Core.Bool.{false}
 use lib.ListN.{length, drop}
 use Rattle.laws.specs.Lists.{eq_list}
 use Rattle.normal.specs.Normal.{same_normal}
 use Rattle.normal.specs.Walk.{form}
-use Rattle.normal.proofs.Forms.{same_texts, same_start, both_end, one_ends, bytes_differ, bytes_agree}
 use Rattle.normal.proofs.same_normal.Given as goal
 
 abbrev pub invariant-loop-table : goal.invariant-loop-table

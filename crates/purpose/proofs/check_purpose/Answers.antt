@@ -1,5 +1,4 @@
 use mathlib.Core.Path.{refl}
-use borrow.Author.Rules.{rules}
 use Rattle.purpose.specs.Purpose.{check_purpose}
 use Rattle.purpose.proofs.check_purpose.Goals as goal
 

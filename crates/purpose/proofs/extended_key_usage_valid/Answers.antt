@@ -1,5 +1,4 @@
 use mathlib.Core.Path.{sym, ◌∙◌}
-use borrow.Author.Rules.{rules}
 use Rattle.model.proofs.Optional.{absent_passes, present_passes}
 use Rattle.purpose.specs.Purpose.{extended_key_usage_valid}
 use Rattle.purpose.proofs.extended_key_usage_valid.Goals as goal

@@ -1,5 +1,4 @@
 use mathlib.Core.Path.{refl}
-use borrow.Author.Rules.{rules}
 use Rattle.model.specs.Decode.{bit_of}
 use Rattle.purpose.specs.Purpose.{key_usage_serves}
 use Rattle.model.proofs.Optional.{passes}

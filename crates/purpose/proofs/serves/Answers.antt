@@ -1,4 +1,3 @@
-use borrow.Author.Rules.{rules}
 use Rattle.purpose.proofs.Laws.{server_only, server_or_any}
 use Rattle.purpose.proofs.serves.Goals as goal
 

@@ -1,4 +1,3 @@
-use borrow.Author.Rules.{rules}
 use Rattle.purpose.proofs.usage_serves.Goals as goal
 
 pub returns : goal.returns

@@ -1,4 +1,3 @@
-use borrow.Author.Rules.{rules}
 use Rattle.roots.proofs.fingerprint.Goals as goal
 
 pub returns : goal.returns

@@ -1,5 +1,4 @@
 use Rattle.row_tests.proofs.Reasons.{dns_other, dns_name}
-use borrow.Author.Rules.{rules}
 use Rattle.row_tests.proofs.dns_high.Goals as goal
 
 pub returns-then-word-ne0 : goal.returns-then-word-ne0

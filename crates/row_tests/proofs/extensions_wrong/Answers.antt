@@ -1,7 +1,6 @@
 use mathlib.Core.Path.{ap, ap₂}
 use mathlib.Core.Bool.{not, ◌&&◌, ◌||◌}
 use Rattle.row_tests.specs.Wrong.{extensions_wrong}
-use borrow.Author.Rules.{rules}
 use Rattle.row_tests.proofs.extensions_wrong.Goals as goal
 
 pub returns : goal.returns

@@ -2,7 +2,6 @@ use mathlib.Core.Path.{ap, ◌∙◌}
 use Rattle.laws.specs.Lists.{any}
 use Rattle.ascii.specs.Bytes.{is_high}
 use Rattle.row_tests.specs.Wrong.{high_string}
-use borrow.Author.Rules.{rules}
 use Rattle.row_tests.proofs.high_string.Goals as goal
 
 pub returns : goal.returns

@@ -1,5 +1,4 @@
 use Rattle.row_tests.proofs.Reasons.{by_start}
-use borrow.Author.Rules.{rules}
 use Rattle.row_tests.proofs.is_wrong.Goals as goal
 
 pub returns : goal.returns

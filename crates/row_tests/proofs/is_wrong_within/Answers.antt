@@ -1,7 +1,6 @@
 use mathlib.Core.Path.{ap₂}
 use mathlib.Core.Bool.{◌&&◌}
 use Rattle.row_tests.proofs.Reasons.{by_test}
-use borrow.Author.Rules.{rules}
 use Rattle.row_tests.proofs.is_wrong_within.Goals as goal
 
 pub returns-in-StringOut : goal.returns-in-StringOut

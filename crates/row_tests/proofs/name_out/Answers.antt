@@ -1,5 +1,4 @@
 use Rattle.row_tests.proofs.Reasons.{name_text_law, name_directory, name_unread}
-use borrow.Author.Rules.{rules}
 use Rattle.row_tests.proofs.name_out.Goals as goal
 
 pub returns-in-0 : goal.returns-in-0

@@ -1,7 +1,6 @@
 use mathlib.Core.Path.{ap₂}
 use lib.Dec.{ltb}
 use Rattle.row_tests.specs.Wrong.{no_optional}
-use borrow.Author.Rules.{rules}
 use Rattle.row_tests.proofs.no_optional.Goals as goal
 
 pub returns : goal.returns

@@ -1,6 +1,5 @@
 use Rattle.row_tests.specs.Wrong.{no_range}
 use Rattle.row_tests.proofs.Reasons.{words_past}
-use borrow.Author.Rules.{rules}
 use Rattle.row_tests.proofs.no_range.Goals as goal
 
 pub returns-then-words-p : goal.returns-then-words-p

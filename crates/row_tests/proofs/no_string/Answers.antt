@@ -1,7 +1,6 @@
 use mathlib.Core.Path.{ap₂}
 use lib.Dec.{leb}
 use Rattle.row_tests.specs.Wrong.{no_string}
-use borrow.Author.Rules.{rules}
 use Rattle.row_tests.proofs.no_string.Goals as goal
 
 pub returns : goal.returns

@@ -1,5 +1,4 @@
 use mathlib.Core.Path.{ap, ◌∙◌}
-use borrow.Author.Rules.{rules}
 use Rattle.row_tests.specs.Wrong.{high_string}
 use Rattle.row_tests.proofs.number_high.Goals as goal
 

@@ -1,5 +1,4 @@
 use Rattle.row_tests.proofs.Reasons.{no_optional_string, optional_string_law}
-use borrow.Author.Rules.{rules}
 use Rattle.row_tests.proofs.optional_high.Goals as goal
 
 pub returns-then-n-eq0 : goal.returns-then-n-eq0

@@ -1,7 +1,6 @@
 use mathlib.Core.Path.{ap}
 use lib.Dec.{ltb}
 use Rattle.row_tests.specs.Wrong.{over}
-use borrow.Author.Rules.{rules}
 use Rattle.row_tests.proofs.over.Goals as goal
 
 pub returns : goal.returns

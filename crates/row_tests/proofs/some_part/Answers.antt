@@ -1,7 +1,6 @@
 use mathlib.Core.Path.{ap₂}
 use mathlib.Core.Bool.{◌||◌}
 use Rattle.row_tests.specs.Wrong.{some_part}
-use borrow.Author.Rules.{rules}
 use Rattle.row_tests.proofs.some_part.Goals as goal
 
 pub returns : goal.returns

@@ -2,7 +2,6 @@ use mathlib.Core.Path.{ap}
 use mathlib.Core.Bool.{not}
 use lib.Dec.{eqb}
 use Rattle.row_tests.specs.Wrong.{there}
-use borrow.Author.Rules.{rules}
 use Rattle.row_tests.proofs.there.Goals as goal
 
 pub returns : goal.returns

@@ -1,5 +1,4 @@
 use Rattle.model.specs.Decode.{oid_at}
-use borrow.Author.Rules.{rules}
 use Rattle.rows.proofs.oid.Goals as goal
 
 pub returns : goal.returns

@@ -1,7 +1,6 @@
 use Rattle.table.proofs.Laws.{first_is, second_is}
 use Rattle.model.specs.Sections.{rdns}
 use Rattle.model.specs.Decode.{rdn_range}
-use borrow.Author.Rules.{rules}
 use Rattle.rows.proofs.rdn.Goals as goal
 
 pub returns : goal.returns

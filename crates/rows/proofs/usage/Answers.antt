@@ -1,5 +1,4 @@
 use Rattle.model.specs.Decode.{usage_word}
-use borrow.Author.Rules.{rules}
 use Rattle.rows.proofs.usage.Goals as goal
 
 pub returns : goal.returns

@@ -1,5 +1,4 @@
 use Rattle.model.specs.Decode.{value_at}
-use borrow.Author.Rules.{rules}
 use Rattle.rows.proofs.value.Goals as goal
 
 pub returns : goal.returns

@@ -1,7 +1,6 @@
 use mathlib.Core.Path.{sym, ◌∙◌}
 use Rattle.model.proofs.Optional.{absent_fails, present_and}
 use Rattle.sans.specs.Sans.{check_san_has_dns}
-use borrow.Author.Rules.{rules}
 use Rattle.sans.proofs.check_san_has_dns.Goals as goal
 
 pub returns-then-cert_word-eq0 : goal.returns-then-cert_word-eq0

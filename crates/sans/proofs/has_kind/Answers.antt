@@ -1,5 +1,4 @@
 use mathlib.Core.Path.{refl}
-use borrow.Author.Rules.{rules}
 use Rattle.model.specs.Decode.{kind_at, generals_in}
 use Rattle.view.proofs.Laws.{some_row}
 use Rattle.sans.proofs.Laws.{kind_is}

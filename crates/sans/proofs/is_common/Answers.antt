@@ -1,5 +1,4 @@
 use Rattle.sans.specs.Sans.{is_common}
-use borrow.Author.Rules.{rules}
 use Rattle.sans.proofs.is_common.Goals as goal
 
 pub returns : goal.returns

@@ -1,5 +1,4 @@
 use Rattle.sans.proofs.Laws.{kind_is}
-use borrow.Author.Rules.{rules}
 use Rattle.sans.proofs.is_kind.Goals as goal
 
 pub returns : goal.returns

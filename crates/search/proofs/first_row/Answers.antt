@@ -1,6 +1,5 @@
 use mathlib.Core.Path.{refl}
 use Rattle.search.proofs.Steps.{row_by_test}
-use borrow.Author.Rules.{rules}
 use Rattle.search.proofs.first_row.Goals as goal
 
 pub returns-in-StringOut : goal.returns-in-StringOut

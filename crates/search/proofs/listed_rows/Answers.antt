@@ -3,7 +3,6 @@ use mathlib.Core.Path.{ap₂, ◌∙◌}
 use Rattle.model.specs.Sections.{entries}
 use Rattle.model.specs.Decode.{rows_in}
 use Rattle.search.proofs.Steps.{listed_out, listed_fits, listed_some, listed_none}
-use borrow.Author.Rules.{rules}
 use Rattle.search.proofs.listed_rows.Goals as goal
 
 pub returns-then-is_misplaced : goal.returns-then-is_misplaced

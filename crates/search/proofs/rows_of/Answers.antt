@@ -1,5 +1,4 @@
 use Rattle.search.proofs.Steps.{rows_header, rows_as}
-use borrow.Author.Rules.{rules}
 use Rattle.search.proofs.rows_of.Goals as goal
 
 pub returns-in-Header : goal.returns-in-Header

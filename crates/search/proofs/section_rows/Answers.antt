@@ -1,5 +1,4 @@
 use Rattle.search.proofs.Steps.{section_none, section_all}
-use borrow.Author.Rules.{rules}
 use Rattle.search.proofs.section_rows.Goals as goal
 
 pub returns-then-is_misplaced : goal.returns-then-is_misplaced

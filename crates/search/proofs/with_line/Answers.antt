@@ -1,7 +1,6 @@
 use mathlib.Core.Path.{sym, ◌∙◌}
 use native.Mathlib.Omega.{arith}
 use Rattle.search.proofs.Steps.{line_late, line_found, line_clear, row_fits, fits_as}
-use borrow.Author.Rules.{rules}
 use Rattle.search.proofs.with_line.Goals as goal
 
 pub returns-then-is_settled : goal.returns-then-is_settled

@@ -1,5 +1,4 @@
 use Rattle.sections.proofs.Steps.{earlier_clear, earlier_yes, earlier_no}
-use borrow.Author.Rules.{rules}
 use Rattle.sections.proofs.earlier.Goals as goal
 
 pub returns-in-Clear : goal.returns-in-Clear

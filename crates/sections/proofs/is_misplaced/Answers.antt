@@ -1,5 +1,4 @@
 use Rattle.sections.proofs.Steps.{in_header, past_words, no_words, by_division}
-use borrow.Author.Rules.{rules}
 use Rattle.sections.proofs.is_misplaced.Goals as goal
 
 pub returns-then-at-header : goal.returns-then-at-header

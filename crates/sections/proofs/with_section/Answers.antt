@@ -1,5 +1,4 @@
 use Rattle.sections.proofs.Steps.{section_bad, section_good}
-use borrow.Author.Rules.{rules}
 use Rattle.sections.proofs.with_section.Goals as goal
 
 pub returns-then-is_misplaced : goal.returns-then-is_misplaced

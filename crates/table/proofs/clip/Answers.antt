@@ -1,6 +1,5 @@
 use native.Mathlib.Omega.{arith}
 use Rattle.table.proofs.Laws.{clip_all, clip_some}
-use borrow.Author.Rules.{rules}
 use Rattle.table.proofs.clip.Goals as goal
 
 pub returns-then-rows-first : goal.returns-then-rows-first

@@ -1,5 +1,4 @@
 use Rattle.table.specs.Table.{count_of}
-use borrow.Author.Rules.{rules}
 use Rattle.table.proofs.count.Goals as goal
 
 pub returns : goal.returns

@@ -1,5 +1,4 @@
 use Rattle.table.proofs.Laws.{part_none, part_rest, part_whole}
-use borrow.Author.Rules.{rules}
 use Rattle.table.proofs.cut.Goals as goal
 
 pub returns-then-total-start : goal.returns-then-total-start

@@ -1,7 +1,6 @@
 use native.Mathlib.Omega.{arith}
 use mathlib.Core.Path.{◌∙◌}
 use Rattle.table.proofs.Laws.{word_past}
-use borrow.Author.Rules.{rules}
 use Rattle.table.proofs.field.Goals as goal
 
 pub returns-then-j-ge-FAR : goal.returns-then-j-ge-FAR

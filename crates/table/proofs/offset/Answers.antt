@@ -1,7 +1,6 @@
 use native.Mathlib.Omega.{arith}
 use Rattle.table.specs.Table.{offset_of}
 use Rattle.table.proofs.Laws.{word_past}
-use borrow.Author.Rules.{rules}
 use Rattle.table.proofs.offset.Goals as goal
 
 pub returns-then-at : goal.returns-then-at

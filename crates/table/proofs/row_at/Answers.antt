@@ -1,7 +1,6 @@
 use native.Mathlib.Omega.{arith}
 use Rattle.table.specs.Table.{far}
 use Rattle.table.proofs.Laws.{row_past, row_in}
-use borrow.Author.Rules.{rules}
 use Rattle.table.proofs.row_at.Goals as goal
 
 pub returns-then-words-at : goal.returns-then-words-at

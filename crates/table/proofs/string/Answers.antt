@@ -1,6 +1,5 @@
 use Rattle.table.specs.Table.{strings, string_of}
 use Rattle.table.proofs.Laws.{first_is, second_is}
-use borrow.Author.Rules.{rules}
 use Rattle.table.proofs.string.Goals as goal
 
 pub returns : goal.returns

@@ -1,6 +1,5 @@
 use native.Mathlib.Omega.{arith}
 use Rattle.table.proofs.Laws.{two_past, two_in}
-use borrow.Author.Rules.{rules}
 use Rattle.table.proofs.two_fields.Goals as goal
 
 pub returns-then-j-ge-FAR : goal.returns-then-j-ge-FAR

@@ -2,7 +2,6 @@ use native.Mathlib.Omega.{arith}
 use native.Mathlib.Nat.{min-eq_left}
 use mathlib.Core.Path.{sym}
 use Rattle.table.proofs.Laws.{none_taken, too_many, product_fits}
-use borrow.Author.Rules.{rules}
 use Rattle.table.proofs.words_of.Goals as goal
 
 pub returns-then-size-eq0 : goal.returns-then-size-eq0

@@ -1,13 +1,10 @@
-use borrow.Author.Rules.{rules}
 use Prim.Native.Nat.{◌-◌}
-use native.Mathlib.Omega.{arith}
-use mathlib.Core.Path.{◌≡◌, refl}
+use mathlib.Core.Path.{◌≡◌}
 use mathlib.Core.Bool.{◌&&◌}
 use lib.Dec.{eqb}
 use lib.ListN.{length}
 use Rattle.laws.specs.Lists.{rows, each, eq_list}
 use Rattle.laws.proofs.Rows.{at}
-use Rattle.laws.proofs.Loops.{each_start, each_more, each_counted}
 use Rattle.text.proofs.agree.Given as goal
 
 abbrev pub invariant-loop-i : goal.invariant-loop-i

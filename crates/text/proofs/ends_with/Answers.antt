@@ -1,5 +1,4 @@
 use Rattle.text.proofs.Laws.{end_short, end_same}
-use borrow.Author.Rules.{rules}
 use Rattle.text.proofs.ends_with.Goals as goal
 
 pub returns-then-s-r : goal.returns-then-s-r

@@ -1,6 +1,5 @@
 use mathlib.Core.Path.{sym, ap, ap₂}
 use lib.Dec.{eqb}
-use borrow.Author.Rules.{rules}
 use borrow.Author.Tests.{eq-eqb}
 use Rattle.ascii.specs.Bytes.{lower_byte}
 use Rattle.text.proofs.lowered_equal.Goals as goal

@@ -1,6 +1,4 @@
-use borrow.Author.Tests.{not-true, not-false}
 use Rattle.text.proofs.Laws.{match_empty, match_other, match_same, match_dot}
-use borrow.Author.Rules.{rules}
 use Rattle.text.proofs.match_dns_name.Goals as goal
 
 pub returns-then-k-eq0 : goal.returns-then-k-eq0

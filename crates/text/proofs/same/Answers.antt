@@ -1,7 +1,6 @@
 use mathlib.Core.Path.{sym}
 use borrow.Author.Tests.{ne_eqb}
 use Rattle.laws.proofs.Equal.{each_length, each_differs}
-use borrow.Author.Rules.{rules}
 use Rattle.text.proofs.same.Goals as goal
 
 pub returns-then-a-b : goal.returns-then-a-b

@@ -1,7 +1,6 @@
 use mathlib.Core.Path.{sym}
 use lib.Seq.{length-take-le}
 use Rattle.text.proofs.Laws.{start_short, start_same}
-use borrow.Author.Rules.{rules}
 use Rattle.text.proofs.starts_with.Goals as goal
 
 pub returns-then-s-k : goal.returns-then-s-k

@@ -1,4 +1,3 @@
-use borrow.Author.Rules.{rules}
 use Rattle.text.proofs.Laws.{as_given, both_lowered}
 use Rattle.text.proofs.taken_equal.Goals as goal
 

@@ -1,4 +1,3 @@
-use borrow.Author.Rules.{rules}
 use Rattle.view.specs.Shown.{head_of}
 use Rattle.view.proofs.head.Goals as goal
 

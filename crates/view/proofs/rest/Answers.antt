@@ -1,4 +1,3 @@
-use borrow.Author.Rules.{rules}
 use borrow.Author.Tests.{lt-ltb, le-ltb}
 use Rattle.view.specs.Shown.{rest_of}
 use Rattle.view.proofs.rest.Goals as goal

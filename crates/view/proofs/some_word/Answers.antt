@@ -1,6 +1,6 @@
 use mathlib.Core.Path.{refl}
 use Rattle.view.specs.Shown.{some_word}
-use Rattle.view.proofs.Laws.{Left, found, ended, shorter, left}
+use Rattle.view.proofs.Laws.{found, ended, shorter, left}
 use Rattle.view.proofs.some_word.Goals as goal
 
 pub loop-v-init : goal.loop-v-init

@@ -1,4 +1,3 @@
-use borrow.Author.Rules.{rules}
 use Rattle.fields.specs.KeyLevel.{check_cert_key_level}
 use Rattle.fields.proofs.Laws.{key_rsa, key_dsa, key_other}
 use Rattle.fields.proofs.key_level.check_cert_key_level.Goals as goal

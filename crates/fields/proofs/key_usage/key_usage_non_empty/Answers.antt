@@ -1,5 +1,4 @@
 use mathlib.Core.Path.{sym, ◌∙◌}
-use borrow.Author.Rules.{rules}
 use Rattle.model.proofs.Optional.{absent_passes, present_passes}
 use Rattle.fields.specs.KeyUsage.{has_bit, key_usage_non_empty}
 use Rattle.fields.proofs.Laws.{some_bit}

@@ -1,4 +1,3 @@
-use borrow.Author.Rules.{rules}
 use Rattle.fields.specs.Signatures.{outer_inner_sig_match}
 use Rattle.fields.proofs.signatures.outer_inner_sig_match.Goals as goal
 

@@ -1,4 +1,3 @@
-use borrow.Author.Rules.{rules}
 use Rattle.model.specs.Decode.{optional_string}
 use Rattle.fields.specs.Uids.{issuer_subject_uid_version}
 use Rattle.fields.proofs.Laws.{version_fits}

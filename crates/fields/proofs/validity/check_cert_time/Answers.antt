@@ -1,5 +1,4 @@
 use mathlib.Core.Path.{refl}
-use borrow.Author.Rules.{rules}
 use Rattle.fields.specs.Validity.{check_cert_time}
 use Rattle.fields.proofs.validity.check_cert_time.Goals as goal
 

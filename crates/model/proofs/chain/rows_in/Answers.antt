@@ -1,5 +1,4 @@
 use Rattle.model.specs.Decode.{rows_in}
-use borrow.Author.Rules.{rules}
 use Rattle.model.proofs.chain.rows_in.Goals as goal
 
 pub returns : goal.returns

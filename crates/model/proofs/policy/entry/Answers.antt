@@ -1,5 +1,4 @@
 use Rattle.model.specs.Decode.{entry_at}
-use borrow.Author.Rules.{rules}
 use Rattle.model.proofs.policy.entry.Goals as goal
 
 pub returns : goal.returns

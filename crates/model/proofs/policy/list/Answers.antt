@@ -1,5 +1,4 @@
 use Rattle.model.proofs.Laws.{list_past, list_at}
-use borrow.Author.Rules.{rules}
 use Rattle.model.proofs.policy.list.Goals as goal
 
 pub returns-then-words-n : goal.returns-then-words-n

@@ -1,6 +1,5 @@
 use mathlib.Core.Path.{refl, ap₂}
 use mathlib.Core.Bool.{◌&&◌}
-use borrow.Author.Rules.{rules}
 use Rattle.model.specs.Decode.{flag_of, bit_of}
 use Rattle.parts.specs.Ca.{check_ca}
 use Rattle.model.proofs.Optional.{passes, there_passes}

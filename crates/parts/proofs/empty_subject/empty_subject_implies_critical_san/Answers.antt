@@ -1,6 +1,5 @@
 use mathlib.Core.Path.{refl, ap₂}
 use mathlib.Core.Bool.{◌||◌}
-use borrow.Author.Rules.{rules}
 use Rattle.parts.specs.EmptySubject.{empty_subject_implies_critical_san}
 use Rattle.model.proofs.Marks.{is_critical_law}
 use Rattle.parts.proofs.Laws.{some_row}

@@ -1,5 +1,4 @@
 use native.Mathlib.Omega.{arith}
-use borrow.Author.Rules.{rules}
 use Rattle.parts.proofs.Laws.{at_leaf, above_leaf_law}
 use Rattle.parts.proofs.path_length.long_enough.Goals as goal
 

@@ -1,5 +1,4 @@
 use mathlib.Core.Path.{sym, ◌∙◌}
-use borrow.Author.Rules.{rules}
 use Rattle.model.proofs.Optional.{absent_passes, present_passes}
 use Rattle.parts.specs.PathLength.{path_length_holds}
 use Rattle.parts.proofs.Laws.{length_read}

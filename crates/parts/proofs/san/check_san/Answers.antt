@@ -1,4 +1,3 @@
-use borrow.Author.Rules.{rules}
 use Rattle.model.specs.Decode.{generals_in}
 use Rattle.parts.specs.SanNames.{check_san}
 use Rattle.model.proofs.Optional.{passes}

@@ -1,9 +1,5 @@
-use Prim.Native.Nat.{◌-◌}
-use mathlib.Core.Path.{◌≡◌}
-use borrow.Author.Rules.{rules}
-use Rattle.laws.specs.Lists.{all, numbers}
 use Rattle.laws.proofs.Loops.{all_here, all_next, all_none}
-use Rattle.patterns.specs.Address.{agrees_at, in_range}
+use Rattle.patterns.specs.Address.{agrees_at}
 use Rattle.patterns.proofs.Ranges.{each_byte}
 use Rattle.patterns.proofs.address.in_range.Goals as goal
 

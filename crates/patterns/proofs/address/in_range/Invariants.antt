@@ -1,10 +1,7 @@
 use Prim.Native.Nat.{◌-◌}
 use mathlib.Core.Path.{◌≡◌}
-use borrow.Author.Rules.{rules}
 use Rattle.laws.specs.Lists.{all, numbers}
-use Rattle.laws.proofs.Loops.{all_here, all_next, all_none}
 use Rattle.patterns.specs.Address.{agrees_at, in_range}
-use Rattle.patterns.proofs.Ranges.{each_byte}
 use Rattle.patterns.proofs.address.in_range.Given as goal
 
 abbrev pub invariant-loop-i : goal.invariant-loop-i

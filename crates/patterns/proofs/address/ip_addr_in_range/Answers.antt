@@ -1,5 +1,4 @@
 use Rattle.patterns.proofs.Ranges.{neither, of_four, of_sixteen}
-use borrow.Author.Rules.{rules}
 use Rattle.patterns.proofs.address.ip_addr_in_range.Goals as goal
 
 pub returns-then-range-n : goal.returns-then-range-n

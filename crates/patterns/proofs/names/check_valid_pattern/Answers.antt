@@ -1,7 +1,5 @@
-use borrow.Author.Tests.{not-true, not-false}
 use mathlib.Core.Path.{sym, ◌∙◌}
 use Rattle.patterns.proofs.Hosts.{valid_plain, valid_star, valid_none, two_bytes}
-use borrow.Author.Rules.{rules}
 use Rattle.patterns.proofs.names.check_valid_pattern.Goals as goal
 
 pub returns-then-not-starts_with : goal.returns-then-not-starts_with

@@ -2,7 +2,6 @@ use mathlib.Core.Path.{sym}
 use native.Mathlib.Omega.{arith}
 use lib.Seq.{length-take-le}
 use Rattle.patterns.proofs.Hosts.{clean_empty, clean_dot, clean_none}
-use borrow.Author.Rules.{rules}
 use Rattle.patterns.proofs.names.clean_name.Goals as goal
 
 pub returns-then-n-eq0 : goal.returns-then-n-eq0

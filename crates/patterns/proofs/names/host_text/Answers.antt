@@ -1,5 +1,4 @@
 use Rattle.patterns.proofs.Hosts.{host_empty, host_some}
-use borrow.Author.Rules.{rules}
 use Rattle.patterns.proofs.names.host_text.Goals as goal
 
 pub returns-then-s-eq0 : goal.returns-then-s-eq0

@@ -1,6 +1,4 @@
-use borrow.Author.Tests.{not-true, not-false}
 use Rattle.patterns.proofs.Hosts.{name_plain, name_bare, name_apex, name_under}
-use borrow.Author.Rules.{rules}
 use Rattle.patterns.proofs.names.match_name.Goals as goal
 
 pub returns-then-not-starts_with : goal.returns-then-not-starts_with

@@ -1,9 +1,7 @@
-use borrow.Author.Tests.{not-true, not-false}
 use mathlib.Core.Path.{sym}
 use native.Mathlib.Omega.{arith}
 use lib.Seq.{length-take-le}
 use Rattle.patterns.proofs.Hosts.{label_short, label_other, label_dots}
-use borrow.Author.Rules.{rules}
 use Rattle.patterns.proofs.names.one_label.Goals as goal
 
 pub returns-then-name-tail : goal.returns-then-name-tail

@@ -1,5 +1,4 @@
 use Rattle.patterns.proofs.Hosts.{permitted}
-use borrow.Author.Rules.{rules}
 use Rattle.patterns.proofs.names.permit_name.Goals as goal
 
 pub returns : goal.returns

@@ -1,5 +1,4 @@
 use Rattle.patterns.proofs.Hosts.{constraint_empty, constraint_dot, constraint_star}
-use borrow.Author.Rules.{rules}
 use Rattle.patterns.proofs.names.valid_name_constraint.Goals as goal
 
 pub returns-then-n-eq0 : goal.returns-then-n-eq0

@@ -1,5 +1,4 @@
 use Rattle.roots.proofs.Laws.{lasts_well, lasts_long}
-use borrow.Author.Rules.{rules}
 use Rattle.roots.proofs.duration.duration_holds.Goals as goal
 
 pub returns-then-leaf_duration_valid : goal.returns-then-leaf_duration_valid

@@ -1,5 +1,4 @@
 use Rattle.roots.specs.Duration.{is_known_root}
-use borrow.Author.Rules.{rules}
 use Rattle.roots.proofs.duration.is_known_root.Goals as goal
 
 pub returns : goal.returns

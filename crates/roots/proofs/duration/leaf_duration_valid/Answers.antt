@@ -1,5 +1,4 @@
 use Rattle.roots.specs.Duration.{leaf_duration_valid}
-use borrow.Author.Rules.{rules}
 use Rattle.roots.proofs.duration.leaf_duration_valid.Goals as goal
 
 pub returns : goal.returns

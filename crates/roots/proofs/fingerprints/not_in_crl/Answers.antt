@@ -1,6 +1,5 @@
 use mathlib.Core.Path.{refl}
 use Rattle.roots.specs.Fingerprints.{not_in_crl}
-use borrow.Author.Rules.{rules}
 use Rattle.roots.proofs.fingerprints.not_in_crl.Goals as goal
 
 pub returns : goal.returns

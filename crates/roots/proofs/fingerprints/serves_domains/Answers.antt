@@ -2,7 +2,6 @@ use mathlib.Core.Path.{ap}
 use mathlib.Core.Bool.{not}
 use Rattle.laws.proofs.Tests.{or_then, or_stop}
 use Rattle.roots.specs.Fingerprints.{serves_domains}
-use borrow.Author.Rules.{rules}
 use Rattle.roots.proofs.fingerprints.serves_domains.Goals as goal
 
 pub returns-then-in_list : goal.returns-then-in_list

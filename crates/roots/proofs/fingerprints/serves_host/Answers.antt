@@ -1,5 +1,4 @@
 use Rattle.roots.proofs.Laws.{india_allows, india_forbids}
-use borrow.Author.Rules.{rules}
 use Rattle.roots.proofs.fingerprints.serves_host.Goals as goal
 
 pub returns-then-serves_domains : goal.returns-then-serves_domains

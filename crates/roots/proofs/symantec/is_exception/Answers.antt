@@ -1,5 +1,4 @@
 use Rattle.roots.specs.Symantec.{is_exception}
-use borrow.Author.Rules.{rules}
 use Rattle.roots.proofs.symantec.is_exception.Goals as goal
 
 pub returns : goal.returns

@@ -1,5 +1,4 @@
 use Rattle.roots.specs.Symantec.{is_symantec_root}
-use borrow.Author.Rules.{rules}
 use Rattle.roots.proofs.symantec.is_symantec_root.Goals as goal
 
 pub returns : goal.returns

@@ -1,5 +1,4 @@
 use Rattle.roots.proofs.Laws.{symantec_root, other_root}
-use borrow.Author.Rules.{rules}
 use Rattle.roots.proofs.symantec.symantec_holds.Goals as goal
 
 pub returns-then-is_symantec_root : goal.returns-then-is_symantec_root
