@@ -4,7 +4,7 @@ A row gives the crate, the function, the slice or the two slices that it walks, 
 each), that test as a definition, the imports of these, and where the function is to answer more than the kind of the test
 and the slices: what, and the law that makes it the same. The law of each kind of loop is in crates/laws/proofs/Loops.antt."""
 
-from row_loops import law, turns
+from row_loops import turns
 from sheets import sheets
 
 ROWS = [
@@ -50,7 +50,7 @@ USES = [
     "lib.ListN.{length}",
     "Rattle.laws.specs.Lists.{rows, any, all, each, eq_list}",
     "Rattle.laws.proofs.Rows.{at}",
-    "Rattle.laws.proofs.Loops.{%s}" % ", ".join(f"{kind}_{law}" for kind in ("any", "all", "each") for law in ("start", "here", "next", "none")),
+    "Rattle.laws.proofs.Loops.{%s}" % ", ".join(f"{kind}_{part}" for kind in ("any", "all", "each") for part in ("start", "here", "next", "none")),
     "Rattle.laws.proofs.Equal.{each_length}",
 ]
 

@@ -85,18 +85,17 @@ def proof(crate, function, says, uses, answers, invariants=None):
 
 
 def invariant(kind):
-    """What a loop keeps, and how many facts stand before what is written so far. That the bound fits a u32 is said again, since `omega` doesn't look at the parameters."""
+    """What a loop keeps: where it stands, and after these facts, whose number is given too, what is written so far."""
     var, bound = f"l.{kind['var']}", kind["bound"]
     facts, done = [f"({var} ≤ {bound})"], var
     if "law" in kind:
         begun = f"l.initial.{kind['var']}"
         facts, done = [f"({begun} ≤ {var})", f"({var} - {begun} ≤ {bound} - {begun})"], f"({var} - {begun})"
-    facts.append(f"({bound} < 4294967296)")
     return " × ".join([*facts, f"SoFar (λ k. {kind['turn']}) {done} l.initial.report l.report l.tally"]), len(facts)
 
 
 LOOP_USES = [
-    "Prim.Native.Nat.{◌+◌, ◌-◌, ◌≤◌, ◌<◌}",
+    "Prim.Native.Nat.{◌+◌, ◌-◌, ◌≤◌}",
     "native.Mathlib.Omega.{arith}",
     "mathlib.Core.Path.{refl, sym, ap, ◌∙◌}",
     "mathlib.Core.Bool.{not}",

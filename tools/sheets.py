@@ -14,18 +14,19 @@ def imports(uses, text):
     """Of each import MODULE.{NAMES} the names that a text says, the others and the empty imports left out."""
     for use in uses:
         module, names = use.rstrip("}").split(".{")
-        if kept := [name for name in names.split(", ") if says(name.split(" as ")[-1], text)]:
+        if kept := [name for name in names.split(", ") if says(name, text)]:
             yield f"use {module}.{{{', '.join(kept)}}}"
 
 
 def sheet(head, uses, goals, form, items):
-    """One file: what it says of itself, its imports, the module of its goals, and its items. An item has its goal's name, and is what
-    stands for it, or a pair with what is unfolded for it; a text that begins with a line break stands below its name."""
+    """One file: what it says of itself, its imports, the module of its goals, and its items, each of the form: how it is declared, and
+    its variable. An item has its goal's name, and is what stands for it, or a pair with what is unfolded for it; a text that begins
+    with a line break stands below its name."""
     parts = []
     for name, item in items.items():
         opens, item = item if isinstance(item, tuple) else (None, item)
         unfolding = f"unfolding {opens}\n" if opens else ""
-        parts.append(f"\n{form[0]}pub {name} : goal.{name}\n{unfolding}{name} {form[1]} ={'' if item.startswith(chr(10)) else ' '}{item}\n")
+        parts.append(f"\n{form[0]} {name} : goal.{name}\n{unfolding}{name} {form[1]} ={'' if item.startswith(chr(10)) else ' '}{item}\n")
     body = "".join(parts)
     return "\n".join([head, *imports(uses, body), f"use {goals} as goal"]) + "\n" + body
 
@@ -34,7 +35,7 @@ def sheets(crate, function, head, uses, answers, invariants=None):
     """The files of a function by their paths. A function of a module goes by MODULE::FUNCTION."""
     home = f"Rattle.{crate}.proofs.{function.replace('::', '.')}"
     folder = f"crates/{crate}/proofs/{function.replace('::', '/')}"
-    made = {f"{folder}/Answers.antt": sheet(head, uses, f"{home}.Goals", ("", "c"), answers)}
+    made = {f"{folder}/Answers.antt": sheet(head, uses, f"{home}.Goals", ("pub", "c"), answers)}
     if invariants:
-        made[f"{folder}/Invariants.antt"] = sheet(head, uses, f"{home}.Given", ("abbrev ", "l"), invariants)
+        made[f"{folder}/Invariants.antt"] = sheet(head, uses, f"{home}.Given", ("abbrev pub", "l"), invariants)
     return made
