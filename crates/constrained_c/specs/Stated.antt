@@ -8,7 +8,7 @@ use Rattle.covering_dns.specs.declared.Covering.TheVariants.{Cleaned}
 use Rattle.constraints.specs.Stated.{NcMatch, CheckSanConstraints}
 
 -- j passes the constraints c: its subject, unless it is empty, as a directory name, and every name of its SAN. Nobody is exempt, and no common name is asked.
--- Which names a DNS constraint covers, `covers-cleaned` says (proofs/Theorems.antt): the name is cleaned just twice, the constraint once.
+-- Which names a DNS constraint covers, `covers_cleaned` says (proofs/Theorems.antt): the name is cleaned just twice, the constraint once.
 pub record Passes (c : Nc) (j : Cert) : Type 0 where
   pub of_subject : (j.subject ≡ [] → ⊥) → NcMatch Cleaned c.permitted c.excluded (directory j.subject)
   pub of_san : (s : San) → j.san ≡ some s → CheckSanConstraints Cleaned c.permitted c.excluded s

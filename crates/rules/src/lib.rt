@@ -1,4 +1,6 @@
 // The table of rules: which rule is broken where.
+#![tactic(auto)]
+
 ghost use Rattle.std.specs.Prelude.{◌≡◌, ◌≤◌};
 ghost use Rattle.laws.specs.Lists.{any, rows};
 ghost use Rattle.model.specs.Decode.{task_of, cert_at, chain_of, lists_of};

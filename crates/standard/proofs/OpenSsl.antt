@@ -19,15 +19,15 @@ use Rattle.standard.proofs.Follows as Follows
 listed : (c : Chain) → ObeysOpenSsl c → OpenSslList c
 listed c o = record {
   no_expiration = Follows.no_expiration c o.rule_2;
-  outer_inner_sig_match_law = Follows.outer-inner-sig-match c o.rule_3;
-  key_usage_non_empty_law = Follows.key-usage-non-empty c o.rule_5;
-  issuer_subject_uid_version_law = Follows.issuer-subject-uid-version c o.rule_4;
+  outer_inner_sig_match = Follows.outer_inner_sig_match_law c o.rule_3;
+  key_usage_non_empty = Follows.key_usage_non_empty_law c o.rule_5;
+  issuer_subject_uid_version = Follows.issuer_subject_uid_version_law c o.rule_4;
   path_len_non_negative = Follows.path_len_non_negative c o.rule_10;
   path_len_constraint = Follows.path_len_constraint c o.rule_10;
   non_leaf_must_be_ca = Follows.non_leaf_must_be_ca c o.rule_9;
   non_leaf_has_key_cert_sign = Follows.non_leaf_has_key_cert_sign c o.rule_9;
   non_empty_san = Follows.non_empty_san c o.rule_11;
-  empty_subject_implies_critical_san_law = Follows.empty-subject-implies-critical-san c o.rule_12;
+  empty_subject_implies_critical_san = Follows.empty_subject_implies_critical_san_law c o.rule_12;
   aki_non_critical = Follows.aki_non_critical c o.rule_7 o.rule_1;
   non_critical_root_ski = Follows.non_critical_root_ski c o.rule_7 o.rule_1;
   non_leaf_has_ski = Follows.non_leaf_has_ski c o.rule_7 (Follows.non_leaf_must_be_ca c o.rule_9);

@@ -1,4 +1,6 @@
 // The check of a chain bundle for bench/sound.rs to link and time.
+#![tactic(auto)]
+
 ghost use Rattle.std.specs.Prelude.{◌≡◌};
 ghost use Rattle.sound.specs.Answer.{ChainVerdict};
 ghost use Rattle.sound.specs.declared.Checked.{Checked};

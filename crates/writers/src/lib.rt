@@ -1,4 +1,6 @@
 // The writers of the report: each lends the tail of the report, from its first free word on, to the next.
+#![tactic(auto)]
+
 ghost use Rattle.std.specs.Prelude.{◌+◌, ◌-◌};
 ghost use Rattle.faults.specs.Report.{Wrote};
 ghost use Rattle.faults.specs.Order.{Reported};

@@ -1,5 +1,4 @@
 use Rattle.constraints.specs.Keeps.{check_common_name_constraints}
-use borrow.Author.Rules.{rules}
 use Rattle.constrained_o.proofs.check_common_name_constraints.Goals as goal
 
 pub returns : goal.returns

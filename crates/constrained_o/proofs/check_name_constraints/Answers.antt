@@ -3,7 +3,6 @@ use Rattle.laws.proofs.Tests.{or_then, or_stop}
 use Rattle.model.proofs.Optional.{absent_passes, present_passes}
 use Rattle.constraints.specs.Keeps.{keeps_constraints}
 use Rattle.constrained_o.specs.Rule14.{check_name_constraints}
-use borrow.Author.Rules.{rules}
 use Rattle.constrained_o.proofs.check_name_constraints.Goals as goal
 
 pub returns-then-cert_word-eq0 : goal.returns-then-cert_word-eq0

@@ -1,7 +1,5 @@
-use borrow.Author.Tests.{not-true, not-false}
 use Rattle.laws.proofs.Tests.{and_then, and_stop}
 use Rattle.constraints.specs.Keeps.{check_name_constraints_helper}
-use borrow.Author.Rules.{rules}
 use Rattle.constrained_o.proofs.check_name_constraints_helper.Goals as goal
 
 pub returns-then-not-check_subject : goal.returns-then-not-check_subject

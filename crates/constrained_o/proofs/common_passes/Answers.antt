@@ -3,7 +3,6 @@ use mathlib.Core.Bool.{not}
 use Rattle.laws.proofs.Tests.{or_then, or_stop}
 use Rattle.sans.specs.Sans.{if_common}
 use Rattle.constraints.specs.Match.{asked_name, nc_match}
-use borrow.Author.Rules.{rules}
 use Rattle.constrained_o.proofs.common_passes.Goals as goal
 
 pub returns-then-is_common : goal.returns-then-is_common

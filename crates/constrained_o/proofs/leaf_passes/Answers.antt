@@ -1,7 +1,6 @@
 use mathlib.Core.Path.{refl, ap}
 use mathlib.Core.Bool.{not}
 use Rattle.laws.proofs.Tests.{or_then, or_stop}
-use borrow.Author.Rules.{rules}
 use Rattle.constrained_o.proofs.leaf_passes.Goals as goal
 
 pub returns-then-check_san_has_dns : goal.returns-then-check_san_has_dns

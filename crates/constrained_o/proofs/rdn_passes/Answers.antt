@@ -1,4 +1,3 @@
-use borrow.Author.Rules.{rules}
 use Rattle.constrained_o.proofs.rdn_passes.Goals as goal
 
 pub returns : goal.returns

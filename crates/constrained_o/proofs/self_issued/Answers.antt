@@ -1,5 +1,4 @@
 use Rattle.constraints.specs.Keeps.{self_issued}
-use borrow.Author.Rules.{rules}
 use Rattle.constrained_o.proofs.self_issued.Goals as goal
 
 pub returns : goal.returns

@@ -4,7 +4,6 @@ use Rattle.sound.specs.declared.Bundle.TheVariants.{Chain}
 use Rattle.sound.specs.Answer.{ChainVerdict}
 use Rattle.sound.proofs.Stated.{chain_known}
 use Rattle.sound.proofs.Verdicts.{answer_size, answer_edition, answer_fine, answer_section, answer_line, answer_sound}
-use borrow.Author.Rules.{rules}
 use Rattle.sound.proofs.check_chain.Goals as goal
 
 pub returns-then-is_too_large-has_too_many : goal.returns-then-is_too_large-has_too_many

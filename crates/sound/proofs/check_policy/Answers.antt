@@ -2,7 +2,6 @@ use Rattle.sound.specs.declared.Bundle.TheVariants.{Policy}
 use Rattle.sound.specs.Answer.{PolicyVerdict}
 use Rattle.sound.proofs.Stated.{policy_known}
 use Rattle.sound.proofs.Verdicts.{answer_size, answer_edition, answer_section, answer_line, answer_sound}
-use borrow.Author.Rules.{rules}
 use Rattle.sound.proofs.check_policy.Goals as goal
 
 pub returns-then-is_too_large : goal.returns-then-is_too_large

@@ -1,7 +1,6 @@
 use mathlib.Core.Path.{ap}
 use mathlib.Core.Bool.{not}
 use lib.Dec.{eqb}
-use borrow.Author.Rules.{rules}
 use Rattle.sound.specs.Limits.{edition}
 use Rattle.sound.proofs.has_other_edition.Goals as goal
 

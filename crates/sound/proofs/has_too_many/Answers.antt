@@ -1,6 +1,5 @@
 use mathlib.Core.Path.{ap}
 use lib.Dec.{ltb}
-use borrow.Author.Rules.{rules}
 use Rattle.sound.specs.Limits.{most_certs}
 use Rattle.sound.proofs.has_too_many.Goals as goal
 
