@@ -2,7 +2,7 @@
 
 Both say the same line for each rule, so they are written from one table of the rules: the kind of a rule's places, and the test that holds there."""
 
-from sheets import imports
+from sheets import page
 
 # A test of one certificate is of (i), of the pair (i, j), of the leaf (0) or of the root (n - 1).
 CERT = "(c.cert i)"
@@ -106,8 +106,7 @@ def tests(policy):
 
 def file(says, uses, lines):
     """A file of lemmas, with those imports that it uses."""
-    body = "\n".join(["", *lines]) + "\n"
-    return "\n".join([f"-- {says} Written by tools/obeying.py. Assumes nothing.", *imports(uses, body)]) + "\n" + body
+    return page(f"-- {says} Written by tools/obeying.py. Assumes nothing.", uses, "\n".join(["", *lines]) + "\n")
 
 
 def start(variant, policy):

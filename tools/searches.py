@@ -23,7 +23,7 @@ GROUPS = {
     "chain_wrong": ["tables_out", "cert_strings_out", "cert_ranges_out", "codes_over", "marks_over", "names_high"],
     "policy_wrong": ["lists_out", "entries_high"],
 }
-# A loop over the rows of a line: what its test asks of a row that begins at q, the test's function, and the goal that the row's words, at q or past it, lie in the bundle.
+# A loop over the rows of a line: what its test asks of a row that begins at q, the test's function, and the goal that holds, as `overflow_add-q` does, since the row lies in the bundle.
 LOOPS = {
     "first_no_string": ("no_string l.words ({q} + l.j)", "no_string", "overflow_add-q-in-loop-i"),
     "first_string_out": ("string_out l.words l.bytes ({q} + l.j)", "string_out", "overflow_add-q-in-loop-i"),
@@ -50,7 +50,7 @@ def ensured(calls):
 
 
 def at_entry(text):
-    """What a loop says of its variables, of those that were passed and don't change."""
+    """What an invariant says of parameters, as an answer says it."""
     return re.sub(r"\bl\.(\w+)", lambda found: f"c.args.{found[1]}" + (".now" if found[1] in ("words", "bytes") else ""), text)
 
 

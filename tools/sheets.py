@@ -18,17 +18,20 @@ def imports(uses, text):
             yield f"use {module}.{{{', '.join(kept)}}}"
 
 
+def page(head, uses, body, *more):
+    """A file: what it says of itself, those of the imports that it uses, more imports, and what stands below them."""
+    return "\n".join([head, *imports(uses, body), *more]) + "\n" + body
+
+
 def sheet(head, uses, goals, form, items):
-    """One file: what it says of itself, its imports, the module of its goals, and its items, each of the form: how it is declared, and
-    its variable. An item has its goal's name, and is what stands for it, or a pair with what is unfolded for it; a text that begins
-    with a line break stands below its name."""
+    """The file of some goals, whose items have one form: how they are declared, and their variable. An item has its goal's name, and is
+    what stands for it, or a pair with what is unfolded for it; a text that begins with a line break stands below its name."""
     parts = []
     for name, item in items.items():
         opens, item = item if isinstance(item, tuple) else (None, item)
         unfolding = f"unfolding {opens}\n" if opens else ""
         parts.append(f"\n{form[0]} {name} : goal.{name}\n{unfolding}{name} {form[1]} ={'' if item.startswith(chr(10)) else ' '}{item}\n")
-    body = "".join(parts)
-    return "\n".join([head, *imports(uses, body), f"use {goals} as goal"]) + "\n" + body
+    return page(head, uses, "".join(parts), f"use {goals} as goal")
 
 
 def sheets(crate, function, head, uses, answers, invariants=None):

@@ -1,6 +1,6 @@
 """The proofs that the tables of crate lines know the refusals that crate sound states: each line of a table by the law that says what its test means, in the order of the table."""
 
-from sheets import imports
+from sheets import page
 
 
 def plain(case):
@@ -126,7 +126,7 @@ module _ (w b : List ℕ) where
 {chr(10).join([SHARED.format(bundle=bundle, large=large, string=string), *first, *tabled(bundle + '_tabled', lines), *last])}
 """
     says = f"-- The lines of the {bundle}'s tables and the cases of `{fault}`, one by one. Written by tools/stated.py. Assumes nothing."
-    return "\n".join([says, *imports(uses(fault, lines), body)]) + "\n" + body
+    return page(says, uses(fault, lines), body)
 
 
 def uses(fault, lines):
