@@ -2,6 +2,8 @@
 
 That the entries are right is proved (crates/ascii/proofs/byte_table/whole) and doesn't rest on this script."""
 
+import textwrap
+
 CLASSES = {
     1: "ABCDEFGHIJKLMNOPQRSTUVWXYZabcdefghijklmnopqrstuvwxyz",
     2: "0123456789",
@@ -25,9 +27,8 @@ def lower(byte):
 ENTRIES = [256 * class_of(byte) + lower(byte) for byte in range(256)]
 
 SOURCE = """// The table of bytes. Written by tools/byte_table.py.
-ghost use mathlib.Core.Path.{_≡_};
-ghost use lib.ListN.{getD};
-ghost use Rattle·ascii·specs.specs.Bytes.{wholeTable};
+ghost use Rattle.std.specs.Prelude.{◌≡◌, get_or};
+ghost use Rattle.ascii.specs.Bytes.{whole_table};
 
 // For each byte its class, times 256, and its lower-case form.
 const TABLE: [u16; 256] = [
@@ -36,14 +37,14 @@ const TABLE: [u16; 256] = [
 
 // The whole table. A loop fetches it once.
 pub fn whole() -> [u16; 256]
-    ensures { λ r. ⌜ r ≡ wholeTable ⌝ }
+    ensures { result ≡ whole_table }
 {
     TABLE
 }
 
 // What a table holds for a byte.
 pub fn entry_in(table: &[u16; 256], x: u8) -> u16
-    ensures { λ r. ⌜ r ≡ getD (now (table .entry)) x 0 ⌝ }
+    ensures { result ≡ get_or table.now x 0 }
 {
     table[x as usize]
 }
@@ -52,4 +53,5 @@ pub fn entry_in(table: &[u16; 256], x: u8) -> u16
 
 def files():
     """Each path that this script writes, with what it writes there."""
-    return {"crates/ascii/src/byte_table.rt": SOURCE % "\n".join(f"    {entry}," for entry in ENTRIES)}
+    rows = textwrap.fill(", ".join(map(str, ENTRIES)) + ",", 100, initial_indent="    ", subsequent_indent="    ")
+    return {"crates/ascii/src/byte_table.rt": SOURCE % rows}

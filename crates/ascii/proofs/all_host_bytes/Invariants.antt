@@ -2,9 +2,9 @@
 use Prim.Native.Nat.{◌-◌}
 use mathlib.Core.Path.{◌≡◌}
 use lib.ListN.{length}
-use Rattle.ascii.specs.Bytes.{is_host_byte}
 use Rattle.laws.specs.Lists.{rows, all}
 use Rattle.laws.proofs.Rows.{at}
+use Rattle.ascii.specs.Bytes.{is_host_byte}
 use Rattle.ascii.proofs.all_host_bytes.Given as goal
 
 abbrev pub invariant-loop-i : goal.invariant-loop-i

@@ -1,6 +1,6 @@
 -- Written by tools/loops.py. Assumes nothing.
 use Rattle.laws.proofs.Rows.{at}
-use Rattle.laws.proofs.Loops.{any_here, any_next, any_none, any_start}
+use Rattle.laws.proofs.Loops.{any_start, any_here, any_next, any_none}
 use Rattle.ascii.proofs.has_class.Goals as goal
 
 pub loop-i-init : goal.loop-i-init
@@ -18,4 +18,5 @@ unfolding at
 loop-i-preserved c = any_next _ _ _ _ c.loop-i-test.true c.is_class.ensures c.if-is_class.false c.loop-i.invariant
 
 pub returns : goal.returns
+unfolding at
 returns c = any_none _ _ _ _ c.loop-i-test.false c.loop-i.invariant

@@ -2,10 +2,10 @@
 use Prim.Native.Nat.{◌-◌}
 use mathlib.Core.Path.{◌≡◌}
 use lib.ListN.{length}
-use lib.Dec.{eqb}
-use Rattle.ascii.specs.Bytes.{class_of}
 use Rattle.laws.specs.Lists.{rows, any}
 use Rattle.laws.proofs.Rows.{at}
+use lib.Dec.{eqb}
+use Rattle.ascii.specs.Bytes.{class_of}
 use Rattle.ascii.proofs.has_class.Given as goal
 
 abbrev pub invariant-loop-i : goal.invariant-loop-i

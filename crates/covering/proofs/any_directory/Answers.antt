@@ -1,7 +1,7 @@
 -- Written by tools/row_loops.py. Assumes nothing.
 use mathlib.Core.Path.{refl}
-use Rattle.model.specs.Decode.{generals_in}
 use Rattle.laws.proofs.Loops.{any_here, any_next, any_none}
+use Rattle.model.specs.Decode.{generals_in}
 use Rattle.covering.proofs.any_directory.Goals as goal
 
 pub loop-i-init : goal.loop-i-init

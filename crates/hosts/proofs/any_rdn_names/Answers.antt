@@ -1,7 +1,7 @@
 -- Written by tools/row_loops.py. Assumes nothing.
 use mathlib.Core.Path.{refl}
-use Rattle.sans.specs.Sans.{some_common}
 use Rattle.laws.proofs.Loops.{any_here, any_next, any_none}
+use Rattle.sans.specs.Sans.{some_common}
 use Rattle.hosts.proofs.any_rdn_names.Goals as goal
 
 pub loop-i-init : goal.loop-i-init

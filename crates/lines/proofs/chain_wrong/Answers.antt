@@ -1,3 +1,4 @@
+-- Written by tools/searches.py. Assumes nothing.
 use mathlib.Core.List.{◌++◌}
 use Rattle.sections.proofs.Each.{each_then}
 use Rattle.search.specs.Found.{found_in}

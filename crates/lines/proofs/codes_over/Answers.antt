@@ -1,3 +1,4 @@
+-- Written by tools/searches.py. Assumes nothing.
 use Rattle.sections.proofs.Each.{each_more, each_done}
 use Rattle.search.specs.Found.{found_in}
 use Rattle.lines.proofs.codes_over.Goals as goal

@@ -1,7 +1,7 @@
 -- Written by tools/row_loops.py. Assumes nothing.
 use mathlib.Core.Path.{refl}
-use Rattle.lists.specs.Listed.{listed}
 use Rattle.laws.proofs.Loops.{any_here, any_next, any_none}
+use Rattle.lists.specs.Listed.{listed}
 use Rattle.lists.proofs.any_is.Goals as goal
 
 pub loop-i-init : goal.loop-i-init

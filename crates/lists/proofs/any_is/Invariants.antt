@@ -1,8 +1,7 @@
 -- Written by tools/row_loops.py. Assumes nothing.
 use Prim.Native.Nat.{◌-◌}
 use mathlib.Core.Path.{◌≡◌}
-use Rattle.laws.specs.Lists.{rows, any}
-use Rattle.laws.specs.Lists.{eq_list}
+use Rattle.laws.specs.Lists.{rows, any, eq_list}
 use Rattle.model.specs.Decode.{entry_at}
 use Rattle.lists.specs.Listed.{listed}
 use Rattle.lists.proofs.any_is.Given as goal

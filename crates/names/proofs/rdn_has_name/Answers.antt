@@ -1,7 +1,7 @@
 -- Written by tools/row_loops.py. Assumes nothing.
 use mathlib.Core.Path.{refl}
-use Rattle.names.specs.Names.{rdn_has_name}
 use Rattle.laws.proofs.Loops.{any_here, any_next, any_none}
+use Rattle.names.specs.Names.{rdn_has_name}
 use Rattle.names.proofs.rdn_has_name.Goals as goal
 
 pub loop-i-init : goal.loop-i-init

@@ -1,7 +1,7 @@
 -- Written by tools/row_loops.py. Assumes nothing.
-use Rattle.names.specs.Names.{same_dn}
 use Rattle.laws.proofs.Loops.{all_here, all_next, all_none}
 use Rattle.laws.proofs.Pairs.{each_unequal, each_pairs}
+use Rattle.names.specs.Names.{same_dn}
 use Rattle.names.proofs.same_dn.Goals as goal
 
 pub returns-then-n-size : goal.returns-then-n-size
@@ -12,11 +12,11 @@ pub loop-k-init : goal.loop-k-init
 unfolding same_dn
 loop-k-init c = each_pairs _ _ _ _ _ _ _ c.size-n.ensures c.size.ensures c.if-n-size.false
 
-pub loop-k-preserved : goal.loop-k-preserved
-loop-k-preserved c = all_next _ _ _ _ c.loop-k-test.true c.same_rdn.ensures c.if-same_rdn.true c.loop-k.invariant
-
 pub returns-else-same_rdn : goal.returns-else-same_rdn
 returns-else-same_rdn c = all_here _ _ _ _ c.loop-k-test.true c.same_rdn.ensures c.if-same_rdn.false c.loop-k.invariant
+
+pub loop-k-preserved : goal.loop-k-preserved
+loop-k-preserved c = all_next _ _ _ _ c.loop-k-test.true c.same_rdn.ensures c.if-same_rdn.true c.loop-k.invariant
 
 pub returns : goal.returns
 returns c = all_none _ _ _ _ c.loop-k-test.false c.loop-k.invariant

@@ -8,7 +8,7 @@ use Rattle.names.specs.Names.{same_rdn, same_dn}
 use Rattle.names.proofs.same_dn.Given as goal
 
 abbrev pub invariant-loop-k : goal.invariant-loop-k
-invariant-loop-k l = same_dn l.v (over (rdn_at l.words l.bytes) l.x) (over (rdn_at l.words l.bytes) l.y) ≡ all (λ m. same_rdn l.v (rdn_at l.words l.bytes (l.x.from + m)) (rdn_at l.words l.bytes (l.y.from + m))) (numbers l.k l.n)
+invariant-loop-k l = same_dn l.v (over (rdn_at l.words l.bytes) l.x) (over (rdn_at l.words l.bytes) l.y) ≡ all (λ k. same_rdn l.v (rdn_at l.words l.bytes (l.x.from + k)) (rdn_at l.words l.bytes (l.y.from + k))) (numbers l.k l.n)
 
 abbrev pub decreases-loop-k : goal.decreases-loop-k
 decreases-loop-k l = l.n - l.k

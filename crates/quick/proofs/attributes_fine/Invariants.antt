@@ -1,8 +1,9 @@
+-- The rows that were passed are right. Written by tools/searches.py. Assumes nothing.
 use Prim.Native.Nat.{◌+◌, ◌*◌, ◌-◌, ◌≤◌}
 use mathlib.Core.Path.{◌≡◌}
 use lib.ListN.{length}
 use Rattle.laws.specs.Lists.{numbers, all}
-use Rattle.table.specs.Table.{count_of, strings as stringRows}
+use Rattle.table.specs.Table.{count_of, strings}
 use Rattle.model.specs.Sections.{attributes}
 use Rattle.search.specs.declared.Block.TheVariants.{All}
 use Rattle.lines.specs.Tables.{chain_lines}
@@ -10,9 +11,8 @@ use Rattle.quick_certs.specs.Asked.{row_fine, rows_fine, lines_of}
 use Rattle.quick.specs.Asked.{StringsLie}
 use Rattle.quick.proofs.attributes_fine.Given as goal
 
--- the rows that were passed are right
 abbrev pub invariant-loop-i : goal.invariant-loop-i
-invariant-loop-i l = (l.q ≡ l.initial.q + attributes.size * l.i) × (l.initial.q + attributes.size * l.n ≤ length l.words) × StringsLie l.words l.bytes × (l.strings ≡ count_of l.words stringRows) × (rows_fine l.words l.bytes (lines_of attributes.count chain_lines) (All attributes) ≡ all (λ k. row_fine l.words l.bytes (lines_of attributes.count chain_lines) (l.initial.q + attributes.size * k)) (numbers l.i l.n))
+invariant-loop-i l = (l.q ≡ l.initial.q + attributes.size * l.i) × (l.initial.q + attributes.size * l.n ≤ length l.words) × StringsLie l.words l.bytes × (l.strings ≡ count_of l.words strings) × (rows_fine l.words l.bytes (lines_of attributes.count chain_lines) (All attributes) ≡ all (λ k. row_fine l.words l.bytes (lines_of attributes.count chain_lines) (l.initial.q + attributes.size * k)) (numbers l.i l.n))
 
 abbrev pub decreases-loop-i : goal.decreases-loop-i
 decreases-loop-i l = l.n - l.i

@@ -1,15 +1,8 @@
 -- Each kind of spot has its table. Written by tools/reports.py. Assumes nothing.
-use native.Mathlib.Omega.{arith}
 use mathlib.Core.Path.{◌∙◌}
 use Rattle.rules.specs.Rules.{broken}
 use Rattle.rules.proofs.Laws.{at_one}
 use Rattle.rules.proofs.breaks.Goals as goal
-
-pub overflow_add-at : goal.overflow_add-at
-overflow_add-at c = omega arith
-
-pub breaks_within-requires : goal.breaks_within-requires
-breaks_within-requires c = omega arith
 
 pub returns-in-Nothing : goal.returns-in-Nothing
 unfolding broken

@@ -1,3 +1,4 @@
+-- The rows that were passed are right. Written by tools/searches.py. Assumes nothing.
 use Prim.Native.Nat.{◌+◌, ◌*◌, ◌-◌, ◌≤◌}
 use mathlib.Core.Path.{◌≡◌}
 use lib.ListN.{length}
@@ -6,7 +7,6 @@ use Rattle.row_tests.specs.Wrong.{high_string}
 use Rattle.table.specs.Table.{word}
 use Rattle.search.proofs.first_high.Given as goal
 
--- the rows that were passed are right
 abbrev pub invariant-loop-i : goal.invariant-loop-i
 invariant-loop-i l = (l.q ≡ l.initial.q + l.size * l.i) × (l.i ≤ l.count) × (l.initial.q + l.size * l.count ≤ length l.words) × (least (λ k. high_string l.words l.bytes (word l.words ((l.initial.q + l.size * k) + l.j))) 0 l.count ≡ least (λ k. high_string l.words l.bytes (word l.words ((l.initial.q + l.size * k) + l.j))) l.i l.count)
 

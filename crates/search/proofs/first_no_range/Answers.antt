@@ -1,3 +1,4 @@
+-- The rows that were passed are right. Written by tools/searches.py. Assumes nothing.
 use Prim.Native.Nat.{ℕ, ◌+◌}
 use native.Mathlib.Omega.{arith}
 use mathlib.Core.Path.{refl}
@@ -12,14 +13,14 @@ loop-i-init c = (row_first _ _, omega arith, c.requires, refl)
 pub overflow_add-q : goal.overflow_add-q
 overflow_add-q c = omega (arith, c.loop-i.invariant.0, row_fits _ _ _ _ _ c.loop-i-test.true c.loop-i.invariant.2)
 
-pub returns-then-no_range : goal.returns-then-no_range
-returns-then-no_range c = let a = c.args in row_here (λ (q : ℕ). no_range a.words.now a.s (q + a.j)) _ _ _ _ c.loop-i-test.true c.loop-i.invariant.0 c.no_range.ensures c.if-no_range.true c.loop-i.invariant.3
-
 pub overflow_add-q-in-loop-i : goal.overflow_add-q-in-loop-i
 overflow_add-q-in-loop-i c = omega (arith, c.loop-i.invariant.0, row_fits _ _ _ _ _ c.loop-i-test.true c.loop-i.invariant.2)
 
+pub returns-then-no_range : goal.returns-then-no_range
+returns-then-no_range c = row_here (λ (q : ℕ). no_range c.args.words.now c.args.s (q + c.args.j)) _ _ _ _ c.loop-i-test.true c.loop-i.invariant.0 c.no_range.ensures c.if-no_range.true c.loop-i.invariant.3
+
 pub loop-i-preserved : goal.loop-i-preserved
-loop-i-preserved c = let a = c.args in (row_next _ _ _ c.loop-i.invariant.0, omega arith, c.loop-i.invariant.2, row_later (λ (q : ℕ). no_range a.words.now a.s (q + a.j)) _ _ _ _ c.loop-i-test.true c.loop-i.invariant.0 c.no_range.ensures c.if-no_range.false c.loop-i.invariant.3)
+loop-i-preserved c = (row_next _ _ _ c.loop-i.invariant.0, omega arith, c.loop-i.invariant.2, row_later (λ (q : ℕ). no_range c.args.words.now c.args.s (q + c.args.j)) _ _ _ _ c.loop-i-test.true c.loop-i.invariant.0 c.no_range.ensures c.if-no_range.false c.loop-i.invariant.3)
 
 pub returns : goal.returns
 returns c = least_none _ _ _ c.loop-i-test.false c.loop-i.invariant.3

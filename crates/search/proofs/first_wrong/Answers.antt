@@ -1,3 +1,4 @@
+-- The rows that were passed are right. Written by tools/searches.py. Assumes nothing.
 use Prim.Native.Nat.{ℕ}
 use native.Mathlib.Omega.{arith}
 use mathlib.Core.Path.{refl}
@@ -9,17 +10,17 @@ use Rattle.search.proofs.first_wrong.Goals as goal
 pub loop-i-init : goal.loop-i-init
 loop-i-init c = (row_first _ _, omega arith, c.requires, refl)
 
+pub overflow_add-q : goal.overflow_add-q
+overflow_add-q c = omega (arith, c.loop-i.invariant.0, row_fits _ _ _ _ _ c.loop-i-test.true c.loop-i.invariant.2)
+
 pub is_wrong-requires : goal.is_wrong-requires
 is_wrong-requires c = omega (arith, c.loop-i.invariant.0, row_fits _ _ _ _ _ c.loop-i-test.true c.loop-i.invariant.2)
 
 pub returns-then-is_wrong : goal.returns-then-is_wrong
-returns-then-is_wrong c = let a = c.args in row_here (λ (q : ℕ). wrong a.t a.words.now a.bytes.now q a.j) _ _ _ _ c.loop-i-test.true c.loop-i.invariant.0 c.is_wrong.ensures c.if-is_wrong.true c.loop-i.invariant.3
-
-pub overflow_add-q : goal.overflow_add-q
-overflow_add-q c = omega (arith, c.loop-i.invariant.0, row_fits _ _ _ _ _ c.loop-i-test.true c.loop-i.invariant.2)
+returns-then-is_wrong c = row_here (λ (q : ℕ). wrong c.args.t c.args.words.now c.args.bytes.now q c.args.j) _ _ _ _ c.loop-i-test.true c.loop-i.invariant.0 c.is_wrong.ensures c.if-is_wrong.true c.loop-i.invariant.3
 
 pub loop-i-preserved : goal.loop-i-preserved
-loop-i-preserved c = let a = c.args in (row_next _ _ _ c.loop-i.invariant.0, omega arith, c.loop-i.invariant.2, row_later (λ (q : ℕ). wrong a.t a.words.now a.bytes.now q a.j) _ _ _ _ c.loop-i-test.true c.loop-i.invariant.0 c.is_wrong.ensures c.if-is_wrong.false c.loop-i.invariant.3)
+loop-i-preserved c = (row_next _ _ _ c.loop-i.invariant.0, omega arith, c.loop-i.invariant.2, row_later (λ (q : ℕ). wrong c.args.t c.args.words.now c.args.bytes.now q c.args.j) _ _ _ _ c.loop-i-test.true c.loop-i.invariant.0 c.is_wrong.ensures c.if-is_wrong.false c.loop-i.invariant.3)
 
 pub returns : goal.returns
 returns c = least_none _ _ _ c.loop-i-test.false c.loop-i.invariant.3

@@ -1,3 +1,4 @@
+-- The rows that were passed are right. Written by tools/searches.py. Assumes nothing.
 use Prim.Native.Nat.{◌+◌, ◌*◌, ◌-◌, ◌≤◌}
 use mathlib.Core.Path.{◌≡◌}
 use lib.ListN.{length}
@@ -5,7 +6,6 @@ use Rattle.laws.specs.Lists.{least}
 use Rattle.row_tests.specs.Wrong.{wrong}
 use Rattle.search.proofs.first_wrong.Given as goal
 
--- the rows that were passed are right
 abbrev pub invariant-loop-i : goal.invariant-loop-i
 invariant-loop-i l = (l.q ≡ l.initial.q + l.size * l.i) × (l.i ≤ l.count) × (l.initial.q + l.size * l.count ≤ length l.words) × (least (λ k. wrong l.t l.words l.bytes (l.initial.q + l.size * k) l.j) 0 l.count ≡ least (λ k. wrong l.t l.words l.bytes (l.initial.q + l.size * k) l.j) l.i l.count)
 

@@ -1,3 +1,4 @@
+-- Written by tools/searches.py. Assumes nothing.
 use Rattle.model.specs.Sections.{policy_header}
 use Rattle.sections.specs.Placed.{found_section}
 use Rattle.sections.proofs.Each.{each_more, each_done}

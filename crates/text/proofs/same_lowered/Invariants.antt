@@ -2,11 +2,11 @@
 use Prim.Native.Nat.{◌-◌}
 use mathlib.Core.Path.{◌≡◌}
 use lib.ListN.{length}
+use Rattle.laws.specs.Lists.{rows, each, eq_list}
+use Rattle.laws.proofs.Rows.{at}
 use lib.Dec.{eqb}
 use Rattle.ascii.specs.Bytes.{lower_byte}
 use Rattle.text.specs.Texts.{taken_byte, taken, lowered}
-use Rattle.laws.specs.Lists.{rows, each, eq_list}
-use Rattle.laws.proofs.Rows.{at}
 use Rattle.text.proofs.same_lowered.Given as goal
 
 abbrev pub invariant-loop-i : goal.invariant-loop-i

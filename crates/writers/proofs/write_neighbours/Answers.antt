@@ -5,32 +5,10 @@ use Rattle.faults.proofs.Laws.{so_far_none, so_far_more, so_far_done}
 use Rattle.writers.proofs.write_neighbours.Goals as goal
 
 pub loop-i-init : goal.loop-i-init
-loop-i-init c = (omega arith, omega arith, so_far_none _ _ _ (omega arith) (omega arith))
-
-pub overflow_mul-at : goal.overflow_mul-at
-overflow_mul-at c = omega arith
-
-pub overflow_add-next : goal.overflow_add-next
-overflow_add-next c = omega arith
-
-pub offset_bounds-report-at : goal.offset_bounds-report-at
-offset_bounds-report-at c = omega arith
-
-pub slice_bounds-write_one-count : goal.slice_bounds-write_one-count
-slice_bounds-write_one-count c = omega arith
-
-pub slice_bounds-write_one-start : goal.slice_bounds-write_one-start
-slice_bounds-write_one-start c = omega arith
-
-pub loop-i-smaller : goal.loop-i-smaller
-loop-i-smaller c = omega arith
+loop-i-init c = (omega arith, so_far_none _ _ _ (omega arith) (omega arith))
 
 pub loop-i-preserved : goal.loop-i-preserved
-loop-i-preserved c = (
-  omega arith,
-  omega arith,
-  so_far_more _ (omega arith) c.loop-i.invariant.2 c.write_one-t.ensures refl c.joined-tally.ensures,
-)
+loop-i-preserved c = (omega arith, so_far_more _ (omega arith) c.loop-i.invariant.1 c.write_one-t.ensures refl c.joined-tally.ensures)
 
 pub returns : goal.returns
-returns c = so_far_done _ c.loop-i.invariant.2 (omega arith)
+returns c = so_far_done _ c.loop-i.invariant.1 (omega arith)

@@ -10,33 +10,11 @@ pub returns-then-asks_nothing : goal.returns-then-asks_nothing
 returns-then-asks_nothing c = row_unasked _ _ _ _ _ _ (sym c.asks_nothing.ensures ∙ c.if-asks_nothing.true)
 
 pub loop-j-init : goal.loop-j-init
-loop-j-init c = (omega arith, omega arith, so_far_none _ _ _ (omega arith) (omega arith))
-
-pub overflow_mul-at : goal.overflow_mul-at
-overflow_mul-at c = omega arith
-
-pub offset_bounds-report-at : goal.offset_bounds-report-at
-offset_bounds-report-at c = omega arith
-
-pub slice_bounds-write_one-count : goal.slice_bounds-write_one-count
-slice_bounds-write_one-count c = omega arith
-
-pub slice_bounds-write_one-start : goal.slice_bounds-write_one-start
-slice_bounds-write_one-start c = omega arith
-
-pub overflow_add-j : goal.overflow_add-j
-overflow_add-j c = omega arith
-
-pub loop-j-smaller : goal.loop-j-smaller
-loop-j-smaller c = omega arith
+loop-j-init c = (omega arith, so_far_none _ _ _ (omega arith) (omega arith))
 
 pub loop-j-preserved : goal.loop-j-preserved
-loop-j-preserved c = (
-  omega arith,
-  omega arith,
-  so_far_more _ (omega arith) c.loop-j.invariant.2 c.write_one-t.ensures refl c.joined-tally.ensures,
-)
+loop-j-preserved c = (omega arith, so_far_more _ (omega arith) c.loop-j.invariant.1 c.write_one-t.ensures refl c.joined-tally.ensures)
 
 pub returns : goal.returns
 unfolding row
-returns c = so_far_done _ c.loop-j.invariant.2 (omega arith)
+returns c = so_far_done _ c.loop-j.invariant.1 (omega arith)

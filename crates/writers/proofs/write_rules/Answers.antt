@@ -3,40 +3,15 @@ use native.Mathlib.Omega.{arith}
 use mathlib.Core.Path.{refl, ◌∙◌}
 use Rattle.faults.specs.Index.{index}
 use Rattle.faults.proofs.Laws.{so_far_none, so_far_more, so_far_same, so_far_done}
-use Rattle.writers.proofs.write_rules.Goals as goal
 use Rattle.writers.proofs.write_rules.Goals.{then-t-ne0, else-t-ne0}
+use Rattle.writers.proofs.write_rules.Goals as goal
 
 pub loop-r-init : goal.loop-r-init
-loop-r-init c = (omega arith, omega arith, so_far_none _ _ _ (omega arith) (omega arith))
-
-pub overflow_mul-at : goal.overflow_mul-at
-overflow_mul-at c = omega arith
-
-pub offset_bounds-report-at : goal.offset_bounds-report-at
-offset_bounds-report-at c = omega arith
-
-pub slice_bounds-write_rule-count : goal.slice_bounds-write_rule-count
-slice_bounds-write_rule-count c = omega arith
-
-pub slice_bounds-write_rule-start : goal.slice_bounds-write_rule-start
-slice_bounds-write_rule-start c = omega arith
-
-pub overflow_add-r : goal.overflow_add-r
-overflow_add-r c = omega arith
-
-pub loop-r-smaller : goal.loop-r-smaller
-loop-r-smaller c = omega arith
+loop-r-init c = (omega arith, so_far_none _ _ _ (omega arith) (omega arith))
 
 pub loop-r-preserved : goal.loop-r-preserved
-loop-r-preserved c = (
-  omega arith,
-  omega arith,
-  elim c.if-t-ne0.branch [
-    | then-t-ne0 w ↦ so_far_more _ (omega arith) c.loop-r.invariant.2 c.write_rule-t.ensures refl (w.tally-is ∙ w.joined-tally.ensures)
-    | else-t-ne0 w ↦ rw w.tally-is (so_far_same _ (omega arith) c.loop-r.invariant.2 c.write_rule-t.ensures refl w.if-t-ne0.false)
-  ],
-)
+loop-r-preserved c = (omega arith, elim c.if-t-ne0.branch [ then-t-ne0 w ↦ so_far_more _ (omega arith) c.loop-r.invariant.1 c.write_rule-t.ensures refl (w.tally-is ∙ w.joined-tally.ensures) | else-t-ne0 w ↦ rw w.tally-is (so_far_same _ (omega arith) c.loop-r.invariant.1 c.write_rule-t.ensures refl w.if-t-ne0.false) ])
 
 pub returns : goal.returns
 unfolding index
-returns c = so_far_done _ c.loop-r.invariant.2 (omega arith)
+returns c = so_far_done _ c.loop-r.invariant.1 (omega arith)
