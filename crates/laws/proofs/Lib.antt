@@ -1,3 +1,4 @@
+pub mod Chains
 pub mod Equal
 pub mod Loops
 pub mod Meaning

@@ -4,6 +4,13 @@
 ghost use Rattle.std.specs.Prelude.{◌≡◌, ℕ, ◌+◌, ◌*◌, ◌≤◌, min};
 ghost use Rattle.table.specs.Table.{word as word_of, far, part, count_of, offset_of, field_of, two_fields_of, string_of, range_of};
 
+// A bundle as its caller lends it: its words, and the bytes in which its strings lie.
+#[derive(Clone, Copy)]
+pub struct Lent<'a> {
+    pub words: &'a [u64],
+    pub bytes: &'a [u8],
+}
+
 // The number of a string: a row of S.
 #[derive(Clone, Copy)]
 pub struct StringNo(pub u64);
@@ -139,11 +146,11 @@ pub fn two_fields(words: &[u64], s: Section, n: u64, j: u64) -> Two
 }
 
 // A string, as a part of the bytes.
-pub fn string<'a>(words: &[u64], bytes: &'a [u8], s: StringNo) -> &'a [u8]
-    ensures { result.now ≡ string_of words.now bytes.now s.0 }
+pub fn string<'a>(lent: Lent<'a>, s: StringNo) -> &'a [u8]
+    ensures { result.now ≡ string_of lent.entry.words.now lent.entry.bytes.now s.0 }
 {
-    let p = two_fields(words, STRINGS, s.0, 0);
-    cut(bytes, p.first, p.second)
+    let p = two_fields(lent.words, STRINGS, s.0, 0);
+    cut(lent.bytes, p.first, p.second)
 }
 
 // The rows of a range that its section has.
