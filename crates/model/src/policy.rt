@@ -2,7 +2,7 @@
 ghost use Rattle.std.specs.Prelude.{◌≡◌};
 ghost use Rattle.model.specs.Decode.{entry_at, list_range};
 
-use table::{Range, Section, StringNo};
+use table::{Lent, Range, Section, StringNo};
 
 pub const ENTRIES: Section = Section { count: 3, size: 1 };
 
@@ -17,10 +17,10 @@ pub struct ListNo(pub usize);
 #[derive(Clone, Copy)]
 pub struct EntryNo(pub u64);
 
-pub fn entry<'a>(words: &[u64], bytes: &'a [u8], n: EntryNo) -> &'a [u8]
-    ensures { result.now ≡ entry_at words.now bytes.now n.0 }
+pub fn entry<'a>(lists: Lent<'a>, n: EntryNo) -> &'a [u8]
+    ensures { result.now ≡ entry_at lists.entry.words.now lists.entry.bytes.now n.0 }
 {
-    table::string(words, bytes, StringNo(table::field(words, ENTRIES, n.0, 0)))
+    table::string(lists, StringNo(table::field(lists.words, ENTRIES, n.0, 0)))
 }
 
 // The entries of a list.
