@@ -4,7 +4,6 @@ A row gives the crate, the function, the slice or the two slices that it walks, 
 each), that test as a definition, the imports of these, and where the function is to answer more than the kind of the test
 and the slices: what, and the law that makes it the same. The law of each kind of loop is in crates/laws/proofs/Loops.antt."""
 
-from row_loops import turns
 from sheets import sheets
 
 ROWS = [
@@ -53,6 +52,24 @@ USES = [
     "Rattle.laws.proofs.Loops.{%s}" % ", ".join(f"{kind}_{part}" for kind in ("any", "all", "each") for part in ("start", "here", "next", "none")),
     "Rattle.laws.proofs.Equal.{each_length}",
 ]
+
+
+def law(name, *facts):
+    """A law of Loops.antt: its lists and bounds are found, the facts are given."""
+    return " ".join([name, *(["_"] * (7 if name.startswith("each") else 4)), *facts])
+
+
+def turns(kind, test, var, *inside):
+    """The goals of a loop's turns and of its end, each with its answer. A turn's law takes the facts `inside` before what the test ensures."""
+    stop, branch, go = ("true", "then", "false") if kind == "any" else ("false", "else", "true")
+    turn = lambda name, side: law(
+        f"{kind}_{name}", f"c.loop-{var}-test.true", *inside, f"c.{test}.ensures", f"c.if-{test}.{side}", f"c.loop-{var}.invariant"
+    )
+    return {
+        f"returns-{branch}-{test}": turn("here", stop),
+        f"loop-{var}-preserved": turn("next", go),
+        "returns": law(f"{kind}_none", f"c.loop-{var}-test.false", *inside, f"c.loop-{var}.invariant"),
+    }
 
 
 def over_one(row):

@@ -9,17 +9,16 @@ ghost use Rattle.covering.specs.Covers.{over_directory, over_ip};
 use model::chain::NameNo;
 use names::Values;
 use sans::Kind;
-use table::Range;
+use table::{Lent, Range};
 
-fn directory_over(words: &[u64], bytes: &[u8], n: NameNo, name: Range) -> bool
-    ensures { result ≡ over_directory (name_in words.now bytes.now name) (general_at words.now bytes.now n.0) }
+fn directory_over(chain: Lent, n: NameNo, name: Range) -> bool
+    ensures { result ≡ over_directory (name_in chain.entry.words.now chain.entry.bytes.now name) (general_at chain.entry.words.now chain.entry.bytes.now n.0) }
 {
-    if sans::is_kind(words, bytes, n, Kind::Directory) {
+    if sans::is_kind(chain, n, Kind::Directory) {
         return names::is_subtree_of(
-            words,
-            bytes,
+            chain,
             Values::Normalised,
-            general_names::name_range(words, n),
+            general_names::name_range(chain.words, n),
             name,
         );
     }
@@ -27,43 +26,24 @@ fn directory_over(words: &[u64], bytes: &[u8], n: NameNo, name: Range) -> bool
 }
 
 // Whether some constraint of a range covers the directory name, which is a range of RDNs.
-pub fn any_directory(words: &[u64], bytes: &[u8], r: Range, name: Range) -> bool
-    ensures { result ≡ any (over_directory (name_in words.now bytes.now name)) (generals_in words.now bytes.now r) }
+pub fn any_directory(chain: Lent, r: Range, name: Range) -> bool
+    ensures { result ≡ any (over_directory (name_in chain.entry.words.now chain.entry.bytes.now name)) (generals_in chain.entry.words.now chain.entry.bytes.now r) }
 {
-    let e = r.to;
-    let mut i = r.from;
-    while i < e {
-        if directory_over(words, bytes, NameNo(i), name) {
-            return true;
-        }
-        i += 1;
-    }
-    false
+    (r.from..r.to).any(|i| directory_over(chain, NameNo(i), name))
 }
 
-fn ip_over(words: &[u64], bytes: &[u8], n: NameNo, address: &[u8]) -> bool
-    ensures { result ≡ over_ip address.now (general_at words.now bytes.now n.0) }
+fn ip_over(chain: Lent, n: NameNo, address: &[u8]) -> bool
+    ensures { result ≡ over_ip address.now (general_at chain.entry.words.now chain.entry.bytes.now n.0) }
 {
-    if sans::is_kind(words, bytes, n, Kind::Ip) {
-        return patterns::address::ip_addr_in_range(
-            general_names::name_text(words, bytes, n),
-            address,
-        );
+    if sans::is_kind(chain, n, Kind::Ip) {
+        return patterns::address::ip_addr_in_range(general_names::name_text(chain, n), address);
     }
     false
 }
 
 // Whether some constraint of a range covers the IP address.
-pub fn any_ip(words: &[u64], bytes: &[u8], r: Range, address: &[u8]) -> bool
-    ensures { result ≡ any (over_ip address.now) (generals_in words.now bytes.now r) }
+pub fn any_ip(chain: Lent, r: Range, address: &[u8]) -> bool
+    ensures { result ≡ any (over_ip address.now) (generals_in chain.entry.words.now chain.entry.bytes.now r) }
 {
-    let e = r.to;
-    let mut i = r.from;
-    while i < e {
-        if ip_over(words, bytes, NameNo(i), address) {
-            return true;
-        }
-        i += 1;
-    }
-    false
+    (r.from..r.to).any(|i| ip_over(chain, NameNo(i), address))
 }

@@ -9,7 +9,7 @@ ghost use Rattle.covering_dns.specs.Inside.{Inside};
 
 use model::chain::{NAMES, NameNo};
 use sans::Kind;
-use table::{Range, STRINGS, StringNo};
+use table::{Lent, Range, STRINGS, StringNo};
 
 // How a DNS constraint covers a name: both lowered, or the constraint cleaned and the name lowered.
 #[derive(Clone, Copy)]
@@ -56,85 +56,69 @@ fn kind_in(words: &[u64], at: Rows, n: NameNo) -> u64
     words[(from + 3 * i) as usize]
 }
 
-fn text_in<'a>(words: &[u64], bytes: &'a [u8], at: Rows, n: NameNo) -> &'a [u8]
-    requires { Inside words.now at × (n.0 < at.end) }
-    ensures { result.now ≡ name_text words.now bytes.now n.0 }
+fn text_in<'a>(chain: Lent<'a>, at: Rows, n: NameNo) -> &'a [u8]
+    requires { Inside chain.words.now at × (n.0 < at.end) }
+    ensures { result.now ≡ name_text chain.entry.words.now chain.entry.bytes.now n.0 }
 {
     let from = at.names;
     let i = n.0;
-    let x = words[(from + 3 * i + 1) as usize];
+    let x = chain.words[(from + 3 * i + 1) as usize];
     if x < at.count {
         let start = at.strings;
         let q = (start + 2 * x) as usize;
-        return table::cut(bytes, words[q], words[q + 1]);
+        return table::cut(chain.bytes, chain.words[q], chain.words[q + 1]);
     }
-    table::string(words, bytes, StringNo(x))
+    table::string(chain, StringNo(x))
 }
 
-fn covers_in(words: &[u64], bytes: &[u8], at: Rows, n: NameNo, v: Covering, name: &[u8]) -> bool
-    requires { Inside words.now at × (n.0 < at.end) }
-    ensures { result ≡ over_dns v name.now (general_at words.now bytes.now n.0) }
+fn covers_in(chain: Lent, at: Rows, n: NameNo, v: Covering, name: &[u8]) -> bool
+    requires { Inside chain.words.now at × (n.0 < at.end) }
+    ensures { result ≡ over_dns v name.now (general_at chain.entry.words.now chain.entry.bytes.now n.0) }
 {
-    if kind_in(words, at, n) == 0 {
-        return dns_covers(v, text_in(words, bytes, at, n), name);
-    }
-    false
-}
-
-fn any_in(words: &[u64], bytes: &[u8], at: Rows, first: u64, v: Covering, name: &[u8]) -> bool
-    requires { Inside words.now at }
-    ensures { result ≡ any (over_dns v name.now) (rows (general_at words.now bytes.now) first at.end) }
-{
-    let e = at.end;
-    let mut i = first;
-    while i < e {
-        if covers_in(words, bytes, at, NameNo(i), v, name) {
-            return true;
-        }
-        i += 1;
+    if kind_in(chain.words, at, n) == 0 {
+        return dns_covers(v, text_in(chain, at, n), name);
     }
     false
 }
 
-fn covers(words: &[u64], bytes: &[u8], n: NameNo, v: Covering, name: &[u8]) -> bool
-    ensures { result ≡ over_dns v name.now (general_at words.now bytes.now n.0) }
+fn any_in(chain: Lent, at: Rows, first: u64, v: Covering, name: &[u8]) -> bool
+    requires { Inside chain.words.now at }
+    ensures { result ≡ any (over_dns v name.now) (rows (general_at chain.entry.words.now chain.entry.bytes.now) first at.end) }
 {
-    if sans::is_kind(words, bytes, n, Kind::Dns) {
-        return dns_covers(v, general_names::name_text(words, bytes, n), name);
+    (first..at.end).any(|i| covers_in(chain, at, NameNo(i), v, name))
+}
+
+fn covers(chain: Lent, n: NameNo, v: Covering, name: &[u8]) -> bool
+    ensures { result ≡ over_dns v name.now (general_at chain.entry.words.now chain.entry.bytes.now n.0) }
+{
+    if sans::is_kind(chain, n, Kind::Dns) {
+        return dns_covers(v, general_names::name_text(chain, n), name);
     }
     false
 }
 
 // The same as `any_dns`, wherever the rows lie.
-fn any_slow(words: &[u64], bytes: &[u8], r: Range, v: Covering, name: &[u8]) -> bool
-    ensures { result ≡ any (over_dns v name.now) (generals_in words.now bytes.now r) }
+fn any_slow(chain: Lent, r: Range, v: Covering, name: &[u8]) -> bool
+    ensures { result ≡ any (over_dns v name.now) (generals_in chain.entry.words.now chain.entry.bytes.now r) }
 {
-    let e = r.to;
-    let mut i = r.from;
-    while i < e {
-        if covers(words, bytes, NameNo(i), v, name) {
-            return true;
-        }
-        i += 1;
-    }
-    false
+    (r.from..r.to).any(|i| covers(chain, NameNo(i), v, name))
 }
 
 // Whether some constraint of a range covers the DNS name.
-pub fn any_dns(words: &[u64], bytes: &[u8], r: Range, v: Covering, name: &[u8]) -> bool
-    ensures { result ≡ any (over_dns v name.now) (generals_in words.now bytes.now r) }
+pub fn any_dns(chain: Lent, r: Range, v: Covering, name: &[u8]) -> bool
+    ensures { result ≡ any (over_dns v name.now) (generals_in chain.entry.words.now chain.entry.bytes.now r) }
 {
     let at = Rows {
-        names: table::offset(words, NAMES),
-        strings: table::offset(words, STRINGS),
+        names: table::offset(chain.words, NAMES),
+        strings: table::offset(chain.words, STRINGS),
         end: r.to,
-        count: table::count(words, STRINGS),
+        count: table::count(chain.words, STRINGS),
     };
-    let total = words.len() as u64;
+    let total = chain.words.len() as u64;
     if fits(total, at.names, 3, at.end) {
         if fits(total, at.strings, 2, at.count) {
-            return any_in(words, bytes, at, r.from, v, name);
+            return any_in(chain, at, r.from, v, name);
         }
     }
-    any_slow(words, bytes, r, v, name)
+    any_slow(chain, r, v, name)
 }

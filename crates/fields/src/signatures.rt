@@ -6,14 +6,14 @@ ghost use Rattle.fields.specs.Signatures.{outer_inner_sig_match};
 use certs::cert_word;
 use certs::row::{INNER, OUTER};
 use model::chain::CertRow;
-use table::StringNo;
+use table::{Lent, StringNo};
 
 // Whether the signature bytes inside a certificate are those outside.
-pub fn outer_inner_sig_match(words: &[u64], bytes: &[u8], c: CertRow) -> bool
-    ensures { result ≡ outer_inner_sig_match (cert_at words.now bytes.now c.0) }
+pub fn outer_inner_sig_match(chain: Lent, c: CertRow) -> bool
+    ensures { result ≡ outer_inner_sig_match (cert_at chain.entry.words.now chain.entry.bytes.now c.0) }
 {
     text::same(
-        table::string(words, bytes, StringNo(cert_word(words, c, INNER))),
-        table::string(words, bytes, StringNo(cert_word(words, c, OUTER))),
+        table::string(chain, StringNo(cert_word(chain.words, c, INNER))),
+        table::string(chain, StringNo(cert_word(chain.words, c, OUTER))),
     )
 }

@@ -5,7 +5,7 @@ ghost use Rattle.std.specs.Prelude.{◌≡◌};
 ghost use Rattle.model.specs.Decode.{kind_at, name_text, name_range};
 
 use model::chain::{NAMES, NameNo, RDNS};
-use table::{Range, StringNo};
+use table::{Lent, Range, StringNo};
 
 pub fn kind(words: &[u64], n: NameNo) -> u64
     ensures { result ≡ kind_at words.now n.0 }
@@ -14,10 +14,10 @@ pub fn kind(words: &[u64], n: NameNo) -> u64
 }
 
 // A name's x as a string.
-pub fn name_text<'a>(words: &[u64], bytes: &'a [u8], n: NameNo) -> &'a [u8]
-    ensures { result.now ≡ name_text words.now bytes.now n.0 }
+pub fn name_text<'a>(chain: Lent<'a>, n: NameNo) -> &'a [u8]
+    ensures { result.now ≡ name_text chain.entry.words.now chain.entry.bytes.now n.0 }
 {
-    table::string(words, bytes, StringNo(table::field(words, NAMES, n.0, 1)))
+    table::string(chain, StringNo(table::field(chain.words, NAMES, n.0, 1)))
 }
 
 // A name's x and y as a range of RDNs.

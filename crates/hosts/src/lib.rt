@@ -13,7 +13,7 @@ ghost use Rattle.hosts.specs.Hostname.{names_host, check_hostname, host_named};
 use certs::row::{SAN, SAN_NAMES, SUBJECT};
 use model::chain::{AttributeNo, CertRow, HOST, NAMES, NameNo, RDNS, RdnNo};
 use sans::Kind;
-use table::{Range, StringNo};
+use table::{Lent, Range, StringNo};
 use text::Letters;
 
 fn names_host(host: &[u8], name: &[u8]) -> bool
@@ -26,125 +26,94 @@ fn names_host(host: &[u8], name: &[u8]) -> bool
 }
 
 // Whether a name is a DNS name that names the host.
-fn dns_names(words: &[u64], bytes: &[u8], n: NameNo, host: &[u8]) -> bool
-    ensures { result ≡ dns_and (names_host host.now) (general_at words.now bytes.now n.0) }
+fn dns_names(chain: Lent, n: NameNo, host: &[u8]) -> bool
+    ensures { result ≡ dns_and (names_host host.now) (general_at chain.entry.words.now chain.entry.bytes.now n.0) }
 {
-    if sans::is_kind(words, bytes, n, Kind::Dns) {
-        return names_host(host, general_names::name_text(words, bytes, n));
+    if sans::is_kind(chain, n, Kind::Dns) {
+        return names_host(host, general_names::name_text(chain, n));
     }
     false
 }
 
-fn any_dns_names(words: &[u64], bytes: &[u8], r: Range, host: &[u8]) -> bool
-    ensures { result ≡ any (dns_and (names_host host.now)) (generals_in words.now bytes.now r) }
+fn any_dns_names(chain: Lent, r: Range, host: &[u8]) -> bool
+    ensures { result ≡ any (dns_and (names_host host.now)) (generals_in chain.entry.words.now chain.entry.bytes.now r) }
 {
-    let e = r.to;
-    let mut i = r.from;
-    while i < e {
-        if dns_names(words, bytes, NameNo(i), host) {
-            return true;
-        }
-        i += 1;
-    }
-    false
+    (r.from..r.to).any(|i| dns_names(chain, NameNo(i), host))
 }
 
 // Whether a certificate has a SAN with a DNS name that names the host.
-fn san_names(words: &[u64], bytes: &[u8], c: CertRow, host: &[u8]) -> bool
-    ensures { result ≡ there_and (λ (s : San). any (dns_and (names_host host.now)) s.names) (cert_at words.now bytes.now c.0).san }
+fn san_names(chain: Lent, c: CertRow, host: &[u8]) -> bool
+    ensures { result ≡ there_and (λ (s : San). any (dns_and (names_host host.now)) s.names) (cert_at chain.entry.words.now chain.entry.bytes.now c.0).san }
 {
-    if certs::cert_word(words, c, SAN) == 0 {
+    if certs::cert_word(chain.words, c, SAN) == 0 {
         return false;
     }
     any_dns_names(
-        words,
-        bytes,
-        certs::cert_range(words, c, SAN_NAMES, NAMES),
+        chain,
+        certs::cert_range(chain.words, c, SAN_NAMES, NAMES),
         host,
     )
 }
 
 // Whether an attribute is a common name that names the host.
-fn common_names(words: &[u64], bytes: &[u8], a: AttributeNo, host: &[u8]) -> bool
-    ensures { result ≡ common_and (names_host host.now) (attribute_at words.now bytes.now a.0) }
+fn common_names(chain: Lent, a: AttributeNo, host: &[u8]) -> bool
+    ensures { result ≡ common_and (names_host host.now) (attribute_at chain.entry.words.now chain.entry.bytes.now a.0) }
 {
-    if sans::is_common(words, bytes, a) {
-        return names_host(host, rows::value(words, bytes, a));
+    if sans::is_common(chain, a) {
+        return names_host(host, rows::value(chain, a));
     }
     false
 }
 
-fn any_common_names(words: &[u64], bytes: &[u8], r: Range, host: &[u8]) -> bool
-    ensures { result ≡ any (common_and (names_host host.now)) (rdn_in words.now bytes.now r) }
+fn any_common_names(chain: Lent, r: Range, host: &[u8]) -> bool
+    ensures { result ≡ any (common_and (names_host host.now)) (rdn_in chain.entry.words.now chain.entry.bytes.now r) }
 {
-    let e = r.to;
-    let mut i = r.from;
-    while i < e {
-        if common_names(words, bytes, AttributeNo(i), host) {
-            return true;
-        }
-        i += 1;
-    }
-    false
+    (r.from..r.to).any(|i| common_names(chain, AttributeNo(i), host))
 }
 
-fn rdn_names(words: &[u64], bytes: &[u8], n: RdnNo, host: &[u8]) -> bool
-    ensures { result ≡ any (common_and (names_host host.now)) (rdn_at words.now bytes.now n.0) }
+fn rdn_names(chain: Lent, n: RdnNo, host: &[u8]) -> bool
+    ensures { result ≡ any (common_and (names_host host.now)) (rdn_at chain.entry.words.now chain.entry.bytes.now n.0) }
 {
-    any_common_names(words, bytes, rows::rdn(words, n), host)
+    any_common_names(chain, rows::rdn(chain.words, n), host)
 }
 
 // Whether some common name of a distinguished name, as a range of RDNs, names the host.
-fn any_rdn_names(words: &[u64], bytes: &[u8], r: Range, host: &[u8]) -> bool
-    ensures { result ≡ some_common (names_host host.now) (name_in words.now bytes.now r) }
+fn any_rdn_names(chain: Lent, r: Range, host: &[u8]) -> bool
+    ensures { result ≡ some_common (names_host host.now) (name_in chain.entry.words.now chain.entry.bytes.now r) }
 {
-    let e = r.to;
-    let mut i = r.from;
-    while i < e {
-        if rdn_names(words, bytes, RdnNo(i), host) {
-            return true;
-        }
-        i += 1;
-    }
-    false
+    (r.from..r.to).any(|i| rdn_names(chain, RdnNo(i), host))
 }
 
-fn subject_names(words: &[u64], bytes: &[u8], c: CertRow, host: &[u8]) -> bool
-    ensures { result ≡ some_common (names_host host.now) (cert_at words.now bytes.now c.0).subject }
+fn subject_names(chain: Lent, c: CertRow, host: &[u8]) -> bool
+    ensures { result ≡ some_common (names_host host.now) (cert_at chain.entry.words.now chain.entry.bytes.now c.0).subject }
 {
     any_rdn_names(
-        words,
-        bytes,
-        certs::cert_range(words, c, SUBJECT, RDNS),
+        chain,
+        certs::cert_range(chain.words, c, SUBJECT, RDNS),
         host,
     )
 }
 
 // Whether a certificate is one for the host.
-pub fn check_hostname(words: &[u64], bytes: &[u8], c: CertRow, host: &[u8]) -> bool
-    ensures { result ≡ check_hostname (cert_at words.now bytes.now c.0) host.now }
+pub fn check_hostname(chain: Lent, c: CertRow, host: &[u8]) -> bool
+    ensures { result ≡ check_hostname (cert_at chain.entry.words.now chain.entry.bytes.now c.0) host.now }
 {
-    if san_names(words, bytes, c, host) {
+    if san_names(chain, c, host) {
         return true;
     }
-    if sans::check_san_has_dns(words, bytes, c) {
+    if sans::check_san_has_dns(chain, c) {
         return false;
     }
-    subject_names(words, bytes, c, host)
+    subject_names(chain, c, host)
 }
 
 // Whether the leaf is one for the host, if there is a host.
-pub fn host_named(words: &[u64], bytes: &[u8], leaf: CertRow) -> bool
-    ensures { result ≡ host_named (task_of words.now bytes.now) (cert_at words.now bytes.now leaf.0) }
+pub fn host_named(chain: Lent, leaf: CertRow) -> bool
+    ensures { result ≡ host_named (task_of chain.entry.words.now chain.entry.bytes.now) (cert_at chain.entry.words.now chain.entry.bytes.now leaf.0) }
 {
-    let h = table::word(words, HOST);
+    let h = table::word(chain.words, HOST);
     if h == 0 {
         return true;
     }
-    check_hostname(
-        words,
-        bytes,
-        leaf,
-        table::string(words, bytes, StringNo(h - 1)),
-    )
+    check_hostname(chain, leaf, table::string(chain, StringNo(h - 1)))
 }

@@ -13,7 +13,7 @@ ghost use Rattle.hosts_c.specs.SanHost.{has_public_suffix, names_clean, match_sa
 use certs::row::{SAN, SAN_NAMES};
 use model::chain::{CertRow, HOST, NAMES, NameNo};
 use sans::Kind;
-use table::{Range, StringNo};
+use table::{Lent, Range, StringNo};
 use text::Letters;
 
 // Whether a DNS name, once cleaned, matches the lowered host, or where only an exact one will do equals it.
@@ -28,89 +28,59 @@ fn names_clean(exact: bool, host: &[u8], name: &[u8]) -> bool
 }
 
 // Whether a name is a DNS name that does.
-fn dns_names(words: &[u64], bytes: &[u8], n: NameNo, exact: bool, host: &[u8]) -> bool
-    ensures { result ≡ dns_and (names_clean exact (lowered host.now)) (general_at words.now bytes.now n.0) }
+fn dns_names(chain: Lent, n: NameNo, exact: bool, host: &[u8]) -> bool
+    ensures { result ≡ dns_and (names_clean exact (lowered host.now)) (general_at chain.entry.words.now chain.entry.bytes.now n.0) }
 {
-    if sans::is_kind(words, bytes, n, Kind::Dns) {
-        return names_clean(exact, host, general_names::name_text(words, bytes, n));
+    if sans::is_kind(chain, n, Kind::Dns) {
+        return names_clean(exact, host, general_names::name_text(chain, n));
     }
     false
 }
 
 // Whether some name of a range is one that does.
-fn any_dns_names(words: &[u64], bytes: &[u8], r: Range, exact: bool, host: &[u8]) -> bool
-    ensures { result ≡ any (dns_and (names_clean exact (lowered host.now))) (generals_in words.now bytes.now r) }
+fn any_dns_names(chain: Lent, r: Range, exact: bool, host: &[u8]) -> bool
+    ensures { result ≡ any (dns_and (names_clean exact (lowered host.now))) (generals_in chain.entry.words.now chain.entry.bytes.now r) }
 {
-    let e = r.to;
-    let mut i = r.from;
-    while i < e {
-        if dns_names(words, bytes, NameNo(i), exact, host) {
-            return true;
-        }
-        i += 1;
-    }
-    false
+    (r.from..r.to).any(|i| dns_names(chain, NameNo(i), exact, host))
 }
 
 // Whether an entry of public_suffix matches the lowered name.
-fn has_public_suffix(pwords: &[u64], pbytes: &[u8], name: &[u8]) -> bool
-    ensures { result ≡ has_public_suffix (lists_of pwords.now pbytes.now) (lowered name.now) }
+fn has_public_suffix(lists: Lent, name: &[u8]) -> bool
+    ensures { result ≡ has_public_suffix (lists_of lists.entry.words.now lists.entry.bytes.now) (lowered name.now) }
 {
-    lists::matches(pwords, pbytes, lists::PUBLIC_SUFFIX, name)
+    lists::matches(lists, lists::PUBLIC_SUFFIX, name)
 }
 
 // Whether some DNS name of a certificate's SAN is one for the lowered host. The list is searched once, for all names.
-fn match_san(
-    words: &[u64],
-    bytes: &[u8],
-    pwords: &[u64],
-    pbytes: &[u8],
-    c: CertRow,
-    host: &[u8],
-) -> bool
-    ensures { result ≡ match_san (lists_of pwords.now pbytes.now) (san_at words.now bytes.now c.0) (lowered host.now) }
+fn match_san(chain: Lent, lists: Lent, c: CertRow, host: &[u8]) -> bool
+    ensures { result ≡ match_san (lists_of lists.entry.words.now lists.entry.bytes.now) (san_at chain.entry.words.now chain.entry.bytes.now c.0) (lowered host.now) }
 {
     any_dns_names(
-        words,
-        bytes,
-        certs::cert_range(words, c, SAN_NAMES, NAMES),
-        has_public_suffix(pwords, pbytes, host),
+        chain,
+        certs::cert_range(chain.words, c, SAN_NAMES, NAMES),
+        has_public_suffix(lists, host),
         host,
     )
 }
 
 // Whether a certificate has a SAN, and it is one for the lowered host.
-fn match_san_domain(
-    words: &[u64],
-    bytes: &[u8],
-    pwords: &[u64],
-    pbytes: &[u8],
-    c: CertRow,
-    host: &[u8],
-) -> bool
-    ensures { result ≡ there_and (λ (s : San). match_san (lists_of pwords.now pbytes.now) s (lowered host.now)) (cert_at words.now bytes.now c.0).san }
+fn match_san_domain(chain: Lent, lists: Lent, c: CertRow, host: &[u8]) -> bool
+    ensures { result ≡ there_and (λ (s : San). match_san (lists_of lists.entry.words.now lists.entry.bytes.now) s (lowered host.now)) (cert_at chain.entry.words.now chain.entry.bytes.now c.0).san }
 {
-    if certs::cert_word(words, c, SAN) == 0 {
+    if certs::cert_word(chain.words, c, SAN) == 0 {
         return false;
     }
-    match_san(words, bytes, pwords, pbytes, c, host)
+    match_san(chain, lists, c, host)
 }
 
 // Whether the leaf is one for the host, if there is a host.
-pub fn host_named(words: &[u64], bytes: &[u8], pwords: &[u64], pbytes: &[u8], leaf: CertRow) -> bool
-    ensures { result ≡ host_named (lists_of pwords.now pbytes.now) (task_of words.now bytes.now) (cert_at words.now bytes.now leaf.0) }
+pub fn host_named(chain: Lent, lists: Lent, leaf: CertRow) -> bool
+    ensures { result ≡ host_named (lists_of lists.entry.words.now lists.entry.bytes.now) (task_of chain.entry.words.now chain.entry.bytes.now) (cert_at chain.entry.words.now chain.entry.bytes.now leaf.0) }
 {
-    let h = table::word(words, HOST);
+    let h = table::word(chain.words, HOST);
     if h == 0 {
         return true;
     }
-    let host = table::string(words, bytes, StringNo(h - 1));
-    match_san_domain(
-        words,
-        bytes,
-        pwords,
-        pbytes,
-        leaf,
-        patterns::names::clean_name(host),
-    )
+    let host = table::string(chain, StringNo(h - 1));
+    match_san_domain(chain, lists, leaf, patterns::names::clean_name(host))
 }

@@ -10,7 +10,7 @@ ghost use Rattle.model.specs.Decode.{entry_at, list_at};
 ghost use Rattle.lists.specs.Listed.{listed, matched};
 
 use model::policy::{EntryNo, ListNo};
-use table::Range;
+use table::{Lent, Range};
 use text::Letters;
 
 // The nine lists, in the order of Chrome's `Policy`.
@@ -33,63 +33,43 @@ pub const ANSSI_TRUSTED: ListNo = ListNo(7);
 pub const ANSSI_DOMAINS: ListNo = ListNo(8);
 
 // Whether an entry is the text.
-fn entry_is(words: &[u64], bytes: &[u8], n: EntryNo, s: &[u8]) -> bool
-    ensures { result ≡ eq_list (entry_at words.now bytes.now n.0) s.now }
+fn entry_is(lists: Lent, n: EntryNo, s: &[u8]) -> bool
+    ensures { result ≡ eq_list (entry_at lists.entry.words.now lists.entry.bytes.now n.0) s.now }
 {
-    text::same(model::policy::entry(words, bytes, n), s)
+    text::same(model::policy::entry(lists, n), s)
 }
 
 // Whether some entry of a range is the text.
-fn any_is(words: &[u64], bytes: &[u8], r: Range, s: &[u8]) -> bool
-    ensures { result ≡ listed (over (entry_at words.now bytes.now) r) s.now }
+fn any_is(lists: Lent, r: Range, s: &[u8]) -> bool
+    ensures { result ≡ listed (over (entry_at lists.entry.words.now lists.entry.bytes.now) r) s.now }
 {
-    let e = r.to;
-    let mut i = r.from;
-    while i < e {
-        if entry_is(words, bytes, EntryNo(i), s) {
-            return true;
-        }
-        i += 1;
-    }
-    false
+    (r.from..r.to).any(|i| entry_is(lists, EntryNo(i), s))
 }
 
 // Whether a list holds a text, byte for byte.
-pub fn in_list(words: &[u64], bytes: &[u8], k: ListNo, s: &[u8]) -> bool
-    ensures { result ≡ listed (list_at words.now bytes.now k.0) s.now }
+pub fn in_list(lists: Lent, k: ListNo, s: &[u8]) -> bool
+    ensures { result ≡ listed (list_at lists.entry.words.now lists.entry.bytes.now k.0) s.now }
 {
-    any_is(words, bytes, model::policy::list(words, k), s)
+    any_is(lists, model::policy::list(lists.words, k), s)
 }
 
 // Whether an entry, as it stands, matches the lowered name.
-fn entry_matches(words: &[u64], bytes: &[u8], n: EntryNo, name: &[u8]) -> bool
-    ensures { result ≡ match_name (entry_at words.now bytes.now n.0) (lowered name.now) }
+fn entry_matches(lists: Lent, n: EntryNo, name: &[u8]) -> bool
+    ensures { result ≡ match_name (entry_at lists.entry.words.now lists.entry.bytes.now n.0) (lowered name.now) }
 {
-    patterns::names::match_name(
-        Letters::AsGiven,
-        model::policy::entry(words, bytes, n),
-        name,
-    )
+    patterns::names::match_name(Letters::AsGiven, model::policy::entry(lists, n), name)
 }
 
 // Whether some entry of a range matches the lowered name.
-fn any_matches(words: &[u64], bytes: &[u8], r: Range, name: &[u8]) -> bool
-    ensures { result ≡ matched (over (entry_at words.now bytes.now) r) (lowered name.now) }
+fn any_matches(lists: Lent, r: Range, name: &[u8]) -> bool
+    ensures { result ≡ matched (over (entry_at lists.entry.words.now lists.entry.bytes.now) r) (lowered name.now) }
 {
-    let e = r.to;
-    let mut i = r.from;
-    while i < e {
-        if entry_matches(words, bytes, EntryNo(i), name) {
-            return true;
-        }
-        i += 1;
-    }
-    false
+    (r.from..r.to).any(|i| entry_matches(lists, EntryNo(i), name))
 }
 
 // Whether some entry of a list matches the lowered name.
-pub fn matches(words: &[u64], bytes: &[u8], k: ListNo, name: &[u8]) -> bool
-    ensures { result ≡ matched (list_at words.now bytes.now k.0) (lowered name.now) }
+pub fn matches(lists: Lent, k: ListNo, name: &[u8]) -> bool
+    ensures { result ≡ matched (list_at lists.entry.words.now lists.entry.bytes.now k.0) (lowered name.now) }
 {
-    any_matches(words, bytes, model::policy::list(words, k), name)
+    any_matches(lists, model::policy::list(lists.words, k), name)
 }

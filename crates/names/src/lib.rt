@@ -8,7 +8,7 @@ ghost use Rattle.names.specs.Numbers.{same_numbers};
 ghost use Rattle.names.specs.Names.{same_value, same_attr, same_rdn, same_dn, rdn_has_name, is_subtree_rdn, is_subtree_of, rdn_in};
 
 use model::chain::{ATTRIBUTES, AttributeNo, RdnNo};
-use table::Range;
+use table::{Lent, Range};
 
 // How values are compared: as they stand, or in normal form.
 #[derive(Clone, Copy)]
@@ -27,23 +27,12 @@ fn same_value(v: Values, a: &[u8], b: &[u8]) -> bool
 }
 
 // Whether a is the same as b, whose OID is lent. The values are fetched only where the OIDs are equal.
-fn same_as(
-    words: &[u64],
-    bytes: &[u8],
-    v: Values,
-    a: AttributeNo,
-    b: AttributeNo,
-    oid: &[u8],
-) -> bool
-    requires { oid.now ≡ oid_at words.now bytes.now b.0 }
-    ensures { result ≡ same_attr v (attribute_at words.now bytes.now a.0) (attribute_at words.now bytes.now b.0) }
+fn same_as(chain: Lent, v: Values, a: AttributeNo, b: AttributeNo, oid: &[u8]) -> bool
+    requires { oid.now ≡ oid_at chain.words.now chain.bytes.now b.0 }
+    ensures { result ≡ same_attr v (attribute_at chain.entry.words.now chain.entry.bytes.now a.0) (attribute_at chain.entry.words.now chain.entry.bytes.now b.0) }
 {
-    if text::same(rows::oid(words, bytes, a), oid) {
-        return same_value(
-            v,
-            rows::value(words, bytes, a),
-            rows::value(words, bytes, b),
-        );
+    if text::same(rows::oid(chain, a), oid) {
+        return same_value(v, rows::value(chain, a), rows::value(chain, b));
     }
     false
 }
@@ -58,13 +47,13 @@ fn same_numbers(words: &[u64], a: AttributeNo, b: AttributeNo) -> bool
 }
 
 // Whether two attributes are the same. Where they have the same string numbers, no text has to be looked at.
-pub fn same_attr(words: &[u64], bytes: &[u8], v: Values, a: AttributeNo, b: AttributeNo) -> bool
-    ensures { result ≡ same_attr v (attribute_at words.now bytes.now a.0) (attribute_at words.now bytes.now b.0) }
+pub fn same_attr(chain: Lent, v: Values, a: AttributeNo, b: AttributeNo) -> bool
+    ensures { result ≡ same_attr v (attribute_at chain.entry.words.now chain.entry.bytes.now a.0) (attribute_at chain.entry.words.now chain.entry.bytes.now b.0) }
 {
-    if same_numbers(words, a, b) {
+    if same_numbers(chain.words, a, b) {
         return true;
     }
-    same_as(words, bytes, v, a, b, rows::oid(words, bytes, b))
+    same_as(chain, v, a, b, rows::oid(chain, b))
 }
 
 // How many rows a range has.
@@ -80,115 +69,79 @@ fn size(r: Range) -> u64
 }
 
 // Whether two RDNs, as ranges of attributes, are the same. The lengths are compared first.
-fn same_attrs(words: &[u64], bytes: &[u8], v: Values, x: Range, y: Range) -> bool
-    ensures { result ≡ same_rdn v (rdn_in words.now bytes.now x) (rdn_in words.now bytes.now y) }
+fn same_attrs(chain: Lent, v: Values, x: Range, y: Range) -> bool
+    ensures { result ≡ same_rdn v (rdn_in chain.entry.words.now chain.entry.bytes.now x) (rdn_in chain.entry.words.now chain.entry.bytes.now y) }
 {
-    let n = size(x);
-    if n != size(y) {
+    if size(x) != size(y) {
         return false;
     }
-    let mut k = 0;
-    while k < n {
-        let i = x.from + k;
-        let j = y.from + k;
-        if same_attr(words, bytes, v, AttributeNo(i), AttributeNo(j)) {
-            k += 1;
-        } else {
-            return false;
-        }
-    }
-    true
+    (x.from..x.to).zip(y.from..y.to).all(|(i, j)| same_attr(
+        chain,
+        v,
+        AttributeNo(i),
+        AttributeNo(j),
+    ))
 }
 
 // Whether two RDNs are the same.
-pub fn same_rdn(words: &[u64], bytes: &[u8], v: Values, a: RdnNo, b: RdnNo) -> bool
-    ensures { result ≡ same_rdn v (rdn_at words.now bytes.now a.0) (rdn_at words.now bytes.now b.0) }
+pub fn same_rdn(chain: Lent, v: Values, a: RdnNo, b: RdnNo) -> bool
+    ensures { result ≡ same_rdn v (rdn_at chain.entry.words.now chain.entry.bytes.now a.0) (rdn_at chain.entry.words.now chain.entry.bytes.now b.0) }
 {
-    same_attrs(words, bytes, v, rows::rdn(words, a), rows::rdn(words, b))
+    same_attrs(
+        chain,
+        v,
+        rows::rdn(chain.words, a),
+        rows::rdn(chain.words, b),
+    )
 }
 
 // Whether two names, as ranges of RDNs, are the same. The lengths are compared first.
-pub fn same_dn(words: &[u64], bytes: &[u8], v: Values, x: Range, y: Range) -> bool
-    ensures { result ≡ same_dn v (name_in words.now bytes.now x) (name_in words.now bytes.now y) }
+pub fn same_dn(chain: Lent, v: Values, x: Range, y: Range) -> bool
+    ensures { result ≡ same_dn v (name_in chain.entry.words.now chain.entry.bytes.now x) (name_in chain.entry.words.now chain.entry.bytes.now y) }
 {
-    let n = size(x);
-    if n != size(y) {
+    if size(x) != size(y) {
         return false;
     }
-    let mut k = 0;
-    while k < n {
-        let i = x.from + k;
-        let j = y.from + k;
-        if same_rdn(words, bytes, v, RdnNo(i), RdnNo(j)) {
-            k += 1;
-        } else {
-            return false;
-        }
-    }
-    true
+    (x.from..x.to)
+        .zip(y.from..y.to)
+        .all(|(i, j)| same_rdn(chain, v, RdnNo(i), RdnNo(j)))
 }
 
 // Whether an RDN, as a range of attributes, has an attribute. The OID that is looked for is fetched once.
-pub fn rdn_has_name(words: &[u64], bytes: &[u8], v: Values, r: Range, a: AttributeNo) -> bool
-    ensures { result ≡ rdn_has_name v (rdn_in words.now bytes.now r) (attribute_at words.now bytes.now a.0) }
+pub fn rdn_has_name(chain: Lent, v: Values, r: Range, a: AttributeNo) -> bool
+    ensures { result ≡ rdn_has_name v (rdn_in chain.entry.words.now chain.entry.bytes.now r) (attribute_at chain.entry.words.now chain.entry.bytes.now a.0) }
 {
-    let oid = rows::oid(words, bytes, a);
-    let e = r.to;
-    let mut i = r.from;
-    while i < e {
-        if same_as(words, bytes, v, AttributeNo(i), a, oid) {
-            return true;
-        }
-        i += 1;
-    }
-    false
+    let oid = rows::oid(chain, a);
+    (r.from..r.to).any(|i| same_as(chain, v, AttributeNo(i), a, oid))
 }
 
 // Whether the RDN y has each attribute of the RDN x, both as ranges of attributes.
-fn has_names(words: &[u64], bytes: &[u8], v: Values, x: Range, y: Range) -> bool
-    ensures { result ≡ all (rdn_has_name v (rdn_in words.now bytes.now y)) (rdn_in words.now bytes.now x) }
+fn has_names(chain: Lent, v: Values, x: Range, y: Range) -> bool
+    ensures { result ≡ all (rdn_has_name v (rdn_in chain.entry.words.now chain.entry.bytes.now y)) (rdn_in chain.entry.words.now chain.entry.bytes.now x) }
 {
-    let e = x.to;
-    let mut i = x.from;
-    while i < e {
-        if rdn_has_name(words, bytes, v, y, AttributeNo(i)) {
-            i += 1;
-        } else {
-            return false;
-        }
-    }
-    true
+    (x.from..x.to).all(|i| rdn_has_name(chain, v, y, AttributeNo(i)))
 }
 
 // Whether the RDN a is a subtree of b.
-pub fn is_subtree_rdn(words: &[u64], bytes: &[u8], v: Values, a: RdnNo, b: RdnNo) -> bool
-    ensures { result ≡ is_subtree_rdn v (rdn_at words.now bytes.now a.0) (rdn_at words.now bytes.now b.0) }
+pub fn is_subtree_rdn(chain: Lent, v: Values, a: RdnNo, b: RdnNo) -> bool
+    ensures { result ≡ is_subtree_rdn v (rdn_at chain.entry.words.now chain.entry.bytes.now a.0) (rdn_at chain.entry.words.now chain.entry.bytes.now b.0) }
 {
-    let x = rows::rdn(words, a);
-    let y = rows::rdn(words, b);
+    let x = rows::rdn(chain.words, a);
+    let y = rows::rdn(chain.words, b);
     if size(y) < size(x) {
         return false;
     }
-    has_names(words, bytes, v, x, y)
+    has_names(chain, v, x, y)
 }
 
 // Whether the name x, as a range of RDNs, is a subtree of y. The lengths are compared first.
-pub fn is_subtree_of(words: &[u64], bytes: &[u8], v: Values, x: Range, y: Range) -> bool
-    ensures { result ≡ is_subtree_of v (name_in words.now bytes.now x) (name_in words.now bytes.now y) }
+pub fn is_subtree_of(chain: Lent, v: Values, x: Range, y: Range) -> bool
+    ensures { result ≡ is_subtree_of v (name_in chain.entry.words.now chain.entry.bytes.now x) (name_in chain.entry.words.now chain.entry.bytes.now y) }
 {
-    let n = size(x);
-    if size(y) < n {
+    if size(y) < size(x) {
         return false;
     }
-    let mut k = 0;
-    while k < n {
-        let i = x.from + k;
-        let j = y.from + k;
-        if is_subtree_rdn(words, bytes, v, RdnNo(i), RdnNo(j)) {
-            k += 1;
-        } else {
-            return false;
-        }
-    }
-    true
+    (x.from..x.to)
+        .zip(y.from..y.to)
+        .all(|(i, j)| is_subtree_rdn(chain, v, RdnNo(i), RdnNo(j)))
 }

@@ -6,11 +6,12 @@ ghost use Rattle.parts.specs.EmptySubject.{empty_subject_implies_critical_san};
 use certs::row::{CRITICAL, SAN, SUBJECT};
 use certs::{cert_range, cert_word};
 use model::chain::{CertRow, RDNS};
+use table::Lent;
 
 // Whether a certificate has a subject, or else a critical SAN.
-pub fn empty_subject_implies_critical_san(words: &[u64], bytes: &[u8], c: CertRow) -> bool
-    ensures { result ≡ empty_subject_implies_critical_san (cert_at words.now bytes.now c.0) }
+pub fn empty_subject_implies_critical_san(chain: Lent, c: CertRow) -> bool
+    ensures { result ≡ empty_subject_implies_critical_san (cert_at chain.entry.words.now chain.entry.bytes.now c.0) }
 {
-    let subject = cert_range(words, c, SUBJECT, RDNS);
-    (subject.from < subject.to) | (CRITICAL <= cert_word(words, c, SAN))
+    let subject = cert_range(chain.words, c, SUBJECT, RDNS);
+    (subject.from < subject.to) | (CRITICAL <= cert_word(chain.words, c, SAN))
 }

@@ -6,7 +6,7 @@ ghost use Rattle.parts.specs.PathLength.{long_enough, path_length_holds};
 use certs::cert_word;
 use certs::row::{BC, HAS_LENGTH, LENGTH};
 use model::chain::CertRow;
-use table::CertPos;
+use table::{CertPos, Lent};
 
 // Whether a path length is enough at a position. It is never cast: it may lie below zero.
 fn long_enough(i: CertPos, length: i64) -> bool
@@ -21,14 +21,14 @@ fn long_enough(i: CertPos, length: i64) -> bool
 }
 
 // Whether the path length of the certificate at a position, if it has one, is enough there.
-pub fn path_length_holds(words: &[u64], bytes: &[u8], i: CertPos, c: CertRow) -> bool
-    ensures { result ≡ path_length_holds i.0 (cert_at words.now bytes.now c.0) }
+pub fn path_length_holds(chain: Lent, i: CertPos, c: CertRow) -> bool
+    ensures { result ≡ path_length_holds i.0 (cert_at chain.entry.words.now chain.entry.bytes.now c.0) }
 {
-    if cert_word(words, c, BC) == 0 {
+    if cert_word(chain.words, c, BC) == 0 {
         return true;
     }
-    if cert_word(words, c, HAS_LENGTH) == 0 {
+    if cert_word(chain.words, c, HAS_LENGTH) == 0 {
         return true;
     }
-    long_enough(i, certs::signed(cert_word(words, c, LENGTH)))
+    long_enough(i, certs::signed(cert_word(chain.words, c, LENGTH)))
 }

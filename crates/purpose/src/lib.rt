@@ -10,7 +10,7 @@ ghost use Rattle.purpose.specs.Purpose.{serves, extended_key_usage_valid, key_us
 use certs::row::{EKU, EKU_USAGES, KU, KU_BITS};
 use certs::{cert_range, cert_word};
 use model::chain::{CertRow, USAGES, UsageNo};
-use table::Range;
+use table::{Lent, Range};
 
 // The usages by their numbers.
 const SERVER_AUTH: u64 = 0;
@@ -50,41 +50,36 @@ fn usage_serves(words: &[u64], s: Serving, n: UsageNo) -> bool
 fn any_serves(words: &[u64], s: Serving, r: Range) -> bool
     ensures { result ≡ any (serves s) (over (usage_at words.now) r) }
 {
-    let e = r.to;
-    let mut i = r.from;
-    while i < e {
-        if usage_serves(words, s, UsageNo(i)) {
-            return true;
-        }
-        i += 1;
-    }
-    false
+    (r.from..r.to).any(|i| usage_serves(words, s, UsageNo(i)))
 }
 
 // Whether an EKU that is there has a usage that serves.
-pub fn extended_key_usage_valid(words: &[u64], bytes: &[u8], s: Serving, c: CertRow) -> bool
-    ensures { result ≡ extended_key_usage_valid s (cert_at words.now bytes.now c.0) }
+pub fn extended_key_usage_valid(chain: Lent, s: Serving, c: CertRow) -> bool
+    ensures { result ≡ extended_key_usage_valid s (cert_at chain.entry.words.now chain.entry.bytes.now c.0) }
 {
-    if cert_word(words, c, EKU) == 0 {
+    if cert_word(chain.words, c, EKU) == 0 {
         return true;
     }
-    any_serves(words, s, cert_range(words, c, EKU_USAGES, USAGES))
+    any_serves(
+        chain.words,
+        s,
+        cert_range(chain.words, c, EKU_USAGES, USAGES),
+    )
 }
 
-fn key_usage_serves(words: &[u64], bytes: &[u8], c: CertRow) -> bool
-    ensures { result ≡ key_usage_serves (cert_at words.now bytes.now c.0) }
+fn key_usage_serves(chain: Lent, c: CertRow) -> bool
+    ensures { result ≡ key_usage_serves (cert_at chain.entry.words.now chain.entry.bytes.now c.0) }
 {
-    let bits = cert_word(words, c, KU_BITS);
+    let bits = cert_word(chain.words, c, KU_BITS);
     let serves = (bits / DIGITAL_SIGNATURE % 2 == 1)
         | (bits / KEY_ENCIPHERMENT % 2 == 1)
         | (bits / KEY_AGREEMENT % 2 == 1);
-    (cert_word(words, c, KU) == 0) | serves
+    (cert_word(chain.words, c, KU) == 0) | serves
 }
 
 // Whether a certificate may serve, as the leaf or above it.
-pub fn check_purpose(words: &[u64], bytes: &[u8], leaf: bool, c: CertRow) -> bool
-    ensures { result ≡ check_purpose leaf (cert_at words.now bytes.now c.0) }
+pub fn check_purpose(chain: Lent, leaf: bool, c: CertRow) -> bool
+    ensures { result ≡ check_purpose leaf (cert_at chain.entry.words.now chain.entry.bytes.now c.0) }
 {
-    extended_key_usage_valid(words, bytes, Serving::Server, c)
-        & (!leaf | key_usage_serves(words, bytes, c))
+    extended_key_usage_valid(chain, Serving::Server, c) & (!leaf | key_usage_serves(chain, c))
 }

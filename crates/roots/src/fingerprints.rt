@@ -6,60 +6,45 @@ ghost use Rattle.roots.specs.Fingerprints.{not_in_crl, serves_domains, serves_ho
 
 use model::chain::{CertRow, HOST};
 use model::policy::ListNo;
-use table::StringNo;
+use table::{Lent, StringNo};
 
 // Whether the policy does not revoke a certificate.
-pub fn not_in_crl(words: &[u64], bytes: &[u8], pwords: &[u64], pbytes: &[u8], c: CertRow) -> bool
-    ensures { result ≡ not_in_crl (lists_of pwords.now pbytes.now) (cert_at words.now bytes.now c.0) }
+pub fn not_in_crl(chain: Lent, lists: Lent, c: CertRow) -> bool
+    ensures { result ≡ not_in_crl (lists_of lists.entry.words.now lists.entry.bytes.now) (cert_at chain.entry.words.now chain.entry.bytes.now c.0) }
 {
-    !lists::in_list(
-        pwords,
-        pbytes,
-        lists::CRL,
-        crate::fingerprint(words, bytes, c),
-    )
+    !crate::is_listed(chain, lists, lists::CRL, c)
 }
 
 // Whether a root with the fingerprint is one for the lowered host: where it is in `trusted`, an entry of `domains` has to match.
 fn serves_domains(
-    pwords: &[u64],
-    pbytes: &[u8],
+    lists: Lent,
     trusted: ListNo,
     domains: ListNo,
     fingerprint: &[u8],
     host: &[u8],
 ) -> bool
-    ensures { result ≡ serves_domains (list_at pwords.now pbytes.now trusted.0) (list_at pwords.now pbytes.now domains.0) fingerprint.now (lowered host.now) }
+    ensures { result ≡ serves_domains (list_at lists.entry.words.now lists.entry.bytes.now trusted.0) (list_at lists.entry.words.now lists.entry.bytes.now domains.0) fingerprint.now (lowered host.now) }
 {
-    if lists::in_list(pwords, pbytes, trusted, fingerprint) {
-        return lists::matches(pwords, pbytes, domains, host);
+    if lists::in_list(lists, trusted, fingerprint) {
+        return lists::matches(lists, domains, host);
     }
     true
 }
 
 // Whether the root is one for the host by india's lists and by anssi's.
-fn serves_host(
-    words: &[u64],
-    bytes: &[u8],
-    pwords: &[u64],
-    pbytes: &[u8],
-    root: CertRow,
-    host: &[u8],
-) -> bool
-    ensures { result ≡ serves_host (lists_of pwords.now pbytes.now) (cert_at words.now bytes.now root.0) host.now }
+fn serves_host(chain: Lent, lists: Lent, root: CertRow, host: &[u8]) -> bool
+    ensures { result ≡ serves_host (lists_of lists.entry.words.now lists.entry.bytes.now) (cert_at chain.entry.words.now chain.entry.bytes.now root.0) host.now }
 {
-    let fingerprint = crate::fingerprint(words, bytes, root);
+    let fingerprint = crate::fingerprint(chain, root);
     if serves_domains(
-        pwords,
-        pbytes,
+        lists,
         lists::INDIA_TRUSTED,
         lists::INDIA_DOMAINS,
         fingerprint,
         host,
     ) {
         return serves_domains(
-            pwords,
-            pbytes,
+            lists,
             lists::ANSSI_TRUSTED,
             lists::ANSSI_DOMAINS,
             fingerprint,
@@ -70,25 +55,12 @@ fn serves_host(
 }
 
 // Whether the root is one for the host, if there is a host.
-pub fn valid_root_fingerprint(
-    words: &[u64],
-    bytes: &[u8],
-    pwords: &[u64],
-    pbytes: &[u8],
-    root: CertRow,
-) -> bool
-    ensures { result ≡ valid_root_fingerprint (lists_of pwords.now pbytes.now) (task_of words.now bytes.now) (cert_at words.now bytes.now root.0) }
+pub fn valid_root_fingerprint(chain: Lent, lists: Lent, root: CertRow) -> bool
+    ensures { result ≡ valid_root_fingerprint (lists_of lists.entry.words.now lists.entry.bytes.now) (task_of chain.entry.words.now chain.entry.bytes.now) (cert_at chain.entry.words.now chain.entry.bytes.now root.0) }
 {
-    let h = table::word(words, HOST);
+    let h = table::word(chain.words, HOST);
     if h == 0 {
         return true;
     }
-    serves_host(
-        words,
-        bytes,
-        pwords,
-        pbytes,
-        root,
-        table::string(words, bytes, StringNo(h - 1)),
-    )
+    serves_host(chain, lists, root, table::string(chain, StringNo(h - 1)))
 }

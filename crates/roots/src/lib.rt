@@ -6,19 +6,27 @@ pub mod fingerprints;
 pub mod symantec;
 
 ghost use Rattle.std.specs.Prelude.{◌≡◌};
-ghost use Rattle.model.specs.Decode.{cert_at};
+ghost use Rattle.model.specs.Decode.{cert_at, list_at};
+ghost use Rattle.lists.specs.Listed.{listed};
 
 use certs::row::FINGERPRINT;
 use model::chain::CertRow;
-use table::StringNo;
+use model::policy::ListNo;
+use table::{Lent, StringNo};
 
 // The fingerprint of a certificate, as a part of the bytes.
-fn fingerprint<'a>(words: &[u64], bytes: &'a [u8], c: CertRow) -> &'a [u8]
-    ensures { result.now ≡ (cert_at words.now bytes.now c.0).fingerprint }
+fn fingerprint<'a>(chain: Lent<'a>, c: CertRow) -> &'a [u8]
+    ensures { result.now ≡ (cert_at chain.entry.words.now chain.entry.bytes.now c.0).fingerprint }
 {
     table::string(
-        words,
-        bytes,
-        StringNo(certs::cert_word(words, c, FINGERPRINT)),
+        chain,
+        StringNo(certs::cert_word(chain.words, c, FINGERPRINT)),
     )
+}
+
+// Whether a list holds the fingerprint of a certificate.
+fn is_listed(chain: Lent, lists: Lent, k: ListNo, c: CertRow) -> bool
+    ensures { result ≡ listed (list_at lists.entry.words.now lists.entry.bytes.now k.0) (cert_at chain.entry.words.now chain.entry.bytes.now c.0).fingerprint }
+{
+    lists::in_list(lists, k, fingerprint(chain, c))
 }

@@ -5,25 +5,23 @@ ghost use Rattle.std.specs.Prelude.{◌≡◌};
 ghost use Rattle.model.specs.Decode.{oid_at, value_at, rdn_range, usage_word};
 
 use model::chain::{ATTRIBUTES, AttributeNo, RDNS, RdnNo, USAGES, UsageNo};
-use table::{Range, StringNo};
+use table::{Lent, Range, StringNo};
 
-pub fn oid<'a>(words: &[u64], bytes: &'a [u8], a: AttributeNo) -> &'a [u8]
-    ensures { result.now ≡ oid_at words.now bytes.now a.0 }
+pub fn oid<'a>(chain: Lent<'a>, a: AttributeNo) -> &'a [u8]
+    ensures { result.now ≡ oid_at chain.entry.words.now chain.entry.bytes.now a.0 }
 {
     table::string(
-        words,
-        bytes,
-        StringNo(table::field(words, ATTRIBUTES, a.0, 0)),
+        chain,
+        StringNo(table::field(chain.words, ATTRIBUTES, a.0, 0)),
     )
 }
 
-pub fn value<'a>(words: &[u64], bytes: &'a [u8], a: AttributeNo) -> &'a [u8]
-    ensures { result.now ≡ value_at words.now bytes.now a.0 }
+pub fn value<'a>(chain: Lent<'a>, a: AttributeNo) -> &'a [u8]
+    ensures { result.now ≡ value_at chain.entry.words.now chain.entry.bytes.now a.0 }
 {
     table::string(
-        words,
-        bytes,
-        StringNo(table::field(words, ATTRIBUTES, a.0, 1)),
+        chain,
+        StringNo(table::field(chain.words, ATTRIBUTES, a.0, 1)),
     )
 }
 

@@ -8,7 +8,7 @@ ghost use Rattle.sans.specs.Sans.{number_of, is_kind, check_san_has_dns, is_comm
 
 use certs::row::{SAN, SAN_NAMES};
 use model::chain::{AttributeNo, CertRow, NAMES, NameNo};
-use table::Range;
+use table::{Lent, Range};
 
 // The word of a name that holds its kind.
 const KIND: u64 = 0;
@@ -32,37 +32,36 @@ fn number(k: Kind) -> u64
 }
 
 // Whether a name is of a kind.
-pub fn is_kind(words: &[u64], bytes: &[u8], n: NameNo, k: Kind) -> bool
-    ensures { result ≡ is_kind k (general_at words.now bytes.now n.0) }
+pub fn is_kind(chain: Lent, n: NameNo, k: Kind) -> bool
+    ensures { result ≡ is_kind k (general_at chain.entry.words.now chain.entry.bytes.now n.0) }
 {
-    general_names::kind(words, n) == number(k)
+    general_names::kind(chain.words, n) == number(k)
 }
 
 // Whether some name of a range is of a kind. The rows are read through a view.
-pub fn has_kind(words: &[u64], bytes: &[u8], r: Range, k: Kind) -> bool
-    ensures { result ≡ any (is_kind k) (generals_in words.now bytes.now r) }
+pub fn has_kind(chain: Lent, r: Range, k: Kind) -> bool
+    ensures { result ≡ any (is_kind k) (generals_in chain.entry.words.now chain.entry.bytes.now r) }
 {
-    view::some_word(words, NAMES, r, KIND, number(k))
+    view::some_word(chain.words, NAMES, r, KIND, number(k))
 }
 
 // Whether the SAN of a certificate has a DNS name.
-pub fn check_san_has_dns(words: &[u64], bytes: &[u8], c: CertRow) -> bool
-    ensures { result ≡ check_san_has_dns (cert_at words.now bytes.now c.0) }
+pub fn check_san_has_dns(chain: Lent, c: CertRow) -> bool
+    ensures { result ≡ check_san_has_dns (cert_at chain.entry.words.now chain.entry.bytes.now c.0) }
 {
-    if certs::cert_word(words, c, SAN) == 0 {
+    if certs::cert_word(chain.words, c, SAN) == 0 {
         return false;
     }
     has_kind(
-        words,
-        bytes,
-        certs::cert_range(words, c, SAN_NAMES, NAMES),
+        chain,
+        certs::cert_range(chain.words, c, SAN_NAMES, NAMES),
         Kind::Dns,
     )
 }
 
 // Whether an attribute is a common name.
-pub fn is_common(words: &[u64], bytes: &[u8], a: AttributeNo) -> bool
-    ensures { result ≡ is_common (attribute_at words.now bytes.now a.0) }
+pub fn is_common(chain: Lent, a: AttributeNo) -> bool
+    ensures { result ≡ is_common (attribute_at chain.entry.words.now chain.entry.bytes.now a.0) }
 {
-    text::same(rows::oid(words, bytes, a), b"2.5.4.3")
+    text::same(rows::oid(chain, a), b"2.5.4.3")
 }

@@ -1,16 +1,8 @@
--- Written by tools/row_loops.py. Assumes nothing.
-use mathlib.Core.Path.{refl}
-use Rattle.laws.proofs.Loops.{all_here, all_next, all_none}
+-- Written by tools/chains.py. Assumes nothing.
+use Rattle.std.proofs.Common.{rules, refl}
+use Rattle.std.proofs.lemmas.Iterator.{YieldsList-from_range}
+use Rattle.laws.proofs.Chains.{all_over}
 use Rattle.constrained_o.proofs.attributes_pass.Goals as goal
 
-pub loop-i-init : goal.loop-i-init
-loop-i-init c = refl
-
-pub returns-else-common_passes : goal.returns-else-common_passes
-returns-else-common_passes c = all_here _ _ _ _ c.loop-i-test.true c.common_passes.ensures c.if-common_passes.false c.loop-i.invariant
-
-pub loop-i-preserved : goal.loop-i-preserved
-loop-i-preserved c = all_next _ _ _ _ c.loop-i-test.true c.common_passes.ensures c.if-common_passes.true c.loop-i.invariant
-
 pub returns : goal.returns
-returns c = all_none _ _ _ _ c.loop-i-test.false c.loop-i.invariant
+returns c = all_over _ _ _ _ _ c.all.ensures.ran (YieldsList-from_range _ _ _ refl refl) (λ n b f k. search rules)

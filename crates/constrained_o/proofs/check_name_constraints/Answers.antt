@@ -15,4 +15,4 @@ returns-then-self_issued c = present_passes _ _ _ (λ e. c.if-cert_word-eq0.fals
 
 pub returns : goal.returns
 unfolding check_name_constraints keeps_constraints
-returns c = present_passes _ _ _ (λ e. c.if-cert_word-eq0.false (c.cert_word.ensures ∙ e)) (or_then c.self_issued.ensures c.if-self_issued.false (rw (c.cert_range.ensures, c.cert_range-2.ensures) at c.check_name_constraints_helper.ensures))
+returns c = present_passes _ _ _ (λ e. c.if-cert_word-eq0.false (c.cert_word.ensures ∙ e)) (or_then c.self_issued.ensures c.if-self_issued.false (rw c.of.ensures at c.check_name_constraints_helper.ensures))

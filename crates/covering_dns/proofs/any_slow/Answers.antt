@@ -1,18 +1,10 @@
--- Written by tools/row_loops.py. Assumes nothing.
-use mathlib.Core.Path.{refl}
-use Rattle.laws.proofs.Loops.{any_here, any_next, any_none}
+-- Written by tools/chains.py. Assumes nothing.
+use Rattle.std.proofs.Common.{rules, refl}
+use Rattle.std.proofs.lemmas.Iterator.{YieldsList-from_range}
+use Rattle.laws.proofs.Chains.{any_over}
 use Rattle.model.specs.Decode.{generals_in}
 use Rattle.covering_dns.proofs.any_slow.Goals as goal
 
-pub loop-i-init : goal.loop-i-init
-unfolding generals_in
-loop-i-init c = refl
-
-pub returns-then-covers : goal.returns-then-covers
-returns-then-covers c = any_here _ _ _ _ c.loop-i-test.true c.covers.ensures c.if-covers.true c.loop-i.invariant
-
-pub loop-i-preserved : goal.loop-i-preserved
-loop-i-preserved c = any_next _ _ _ _ c.loop-i-test.true c.covers.ensures c.if-covers.false c.loop-i.invariant
-
 pub returns : goal.returns
-returns c = any_none _ _ _ _ c.loop-i-test.false c.loop-i.invariant
+unfolding generals_in
+returns c = any_over _ _ _ _ _ c.any.ensures.ran (YieldsList-from_range _ _ _ refl refl) (λ n b f k. search rules)

@@ -1,22 +1,15 @@
--- Written by tools/row_loops.py. Assumes nothing.
-use Rattle.laws.proofs.Loops.{all_here, all_next, all_none}
-use Rattle.laws.proofs.Pairs.{each_unequal, each_pairs}
+-- Written by tools/chains.py. Assumes nothing.
+use Rattle.std.proofs.Common.{rules, refl}
+use Rattle.std.proofs.lemmas.Iterator.{YieldsList-from_range, YieldsList-from_zip}
+use Rattle.laws.proofs.Chains.{each_over}
+use Rattle.laws.proofs.Pairs.{each_unequal}
 use Rattle.names.specs.Names.{same_dn}
 use Rattle.names.proofs.same_dn.Goals as goal
 
-pub returns-then-n-size : goal.returns-then-n-size
+pub returns-then-size : goal.returns-then-size
 unfolding same_dn
-returns-then-n-size c = each_unequal _ _ _ _ _ _ _ c.size-n.ensures c.size.ensures c.if-n-size.true
-
-pub loop-k-init : goal.loop-k-init
-unfolding same_dn
-loop-k-init c = each_pairs _ _ _ _ _ _ _ c.size-n.ensures c.size.ensures c.if-n-size.false
-
-pub returns-else-same_rdn : goal.returns-else-same_rdn
-returns-else-same_rdn c = all_here _ _ _ _ c.loop-k-test.true c.same_rdn.ensures c.if-same_rdn.false c.loop-k.invariant
-
-pub loop-k-preserved : goal.loop-k-preserved
-loop-k-preserved c = all_next _ _ _ _ c.loop-k-test.true c.same_rdn.ensures c.if-same_rdn.true c.loop-k.invariant
+returns-then-size c = each_unequal _ _ _ _ _ _ _ c.size.ensures c.size-2.ensures c.if-size.true
 
 pub returns : goal.returns
-returns c = all_none _ _ _ _ c.loop-k-test.false c.loop-k.invariant
+unfolding same_dn
+returns c = each_over _ _ _ _ _ _ _ _ c.size.ensures c.size-2.ensures c.if-size.false c.all.ensures.ran (YieldsList-from_zip (YieldsList-from_range _ _ _ c.zip.ensures.first refl) (YieldsList-from_range _ _ _ c.zip.ensures.second refl)) (λ n b f k. search rules)

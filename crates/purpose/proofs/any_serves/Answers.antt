@@ -1,16 +1,8 @@
--- Written by tools/row_loops.py. Assumes nothing.
-use mathlib.Core.Path.{refl}
-use Rattle.laws.proofs.Loops.{any_here, any_next, any_none}
+-- Written by tools/chains.py. Assumes nothing.
+use Rattle.std.proofs.Common.{rules, refl}
+use Rattle.std.proofs.lemmas.Iterator.{YieldsList-from_range}
+use Rattle.laws.proofs.Chains.{any_over}
 use Rattle.purpose.proofs.any_serves.Goals as goal
 
-pub loop-i-init : goal.loop-i-init
-loop-i-init c = refl
-
-pub returns-then-usage_serves : goal.returns-then-usage_serves
-returns-then-usage_serves c = any_here _ _ _ _ c.loop-i-test.true c.usage_serves.ensures c.if-usage_serves.true c.loop-i.invariant
-
-pub loop-i-preserved : goal.loop-i-preserved
-loop-i-preserved c = any_next _ _ _ _ c.loop-i-test.true c.usage_serves.ensures c.if-usage_serves.false c.loop-i.invariant
-
 pub returns : goal.returns
-returns c = any_none _ _ _ _ c.loop-i-test.false c.loop-i.invariant
+returns c = any_over _ _ _ _ _ c.any.ensures.ran (YieldsList-from_range _ _ _ refl refl) (λ n b f k. search rules)

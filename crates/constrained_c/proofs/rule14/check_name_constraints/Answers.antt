@@ -11,8 +11,8 @@ returns-then-cert_word-eq0 c = absent_passes _ _ _ (sym c.cert_word.ensures ∙ 
 
 pub returns-then-check_subject : goal.returns-then-check_subject
 unfolding check_name_constraints
-returns-then-check_subject c = present_passes _ _ _ (λ e. c.if-cert_word-eq0.false (c.cert_word.ensures ∙ e)) (rw (c.cert_range-permitted.ensures, c.cert_range-excluded.ensures) at (and_then c.check_subject.ensures c.if-check_subject.true c.check_san_constraints.ensures)) ∙ sym (names_only _ _ _)
+returns-then-check_subject c = present_passes _ _ _ (λ e. c.if-cert_word-eq0.false (c.cert_word.ensures ∙ e)) (rw c.of-nc.ensures at (and_then c.check_subject.ensures c.if-check_subject.true c.check_san_constraints.ensures)) ∙ sym (names_only _ _ _)
 
 pub returns : goal.returns
 unfolding check_name_constraints
-returns c = present_passes _ _ _ (λ e. c.if-cert_word-eq0.false (c.cert_word.ensures ∙ e)) (and_stop (rw (c.cert_range-permitted.ensures, c.cert_range-excluded.ensures) at c.check_subject.ensures) _ c.if-check_subject.false) ∙ sym (names_only _ _ _)
+returns c = present_passes _ _ _ (λ e. c.if-cert_word-eq0.false (c.cert_word.ensures ∙ e)) (and_stop (rw c.of-nc.ensures at c.check_subject.ensures) _ c.if-check_subject.false) ∙ sym (names_only _ _ _)

@@ -10,8 +10,8 @@ returns-then-cert_word-eq0 c = absent_passes _ _ _ (sym c.cert_word.ensures ∙ 
 
 pub returns-then-all_valid : goal.returns-then-all_valid
 unfolding valid_dns_name_constraints
-returns-then-all_valid c = present_passes _ _ _ (λ e. c.if-cert_word-eq0.false (c.cert_word.ensures ∙ e)) (rw (c.cert_range-permitted.ensures, c.cert_range-excluded.ensures) at (and_then c.all_valid.ensures c.if-all_valid.true c.all_valid-then-all_valid.ensures))
+returns-then-all_valid c = present_passes _ _ _ (λ e. c.if-cert_word-eq0.false (c.cert_word.ensures ∙ e)) (rw c.of-nc.ensures at (and_then c.all_valid.ensures c.if-all_valid.true c.all_valid-then-all_valid.ensures))
 
 pub returns : goal.returns
 unfolding valid_dns_name_constraints
-returns c = present_passes _ _ _ (λ e. c.if-cert_word-eq0.false (c.cert_word.ensures ∙ e)) (and_stop (rw c.cert_range-permitted.ensures at c.all_valid.ensures) _ c.if-all_valid.false)
+returns c = present_passes _ _ _ (λ e. c.if-cert_word-eq0.false (c.cert_word.ensures ∙ e)) (and_stop (rw c.of-nc.ensures at c.all_valid.ensures) _ c.if-all_valid.false)
