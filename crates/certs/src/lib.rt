@@ -24,12 +24,9 @@ pub fn cert_range(words: &[u64], c: CertRow, j: u32, s: Section) -> Range
     model::chain::rows_in(words, s, p.first, p.second)
 }
 
-// The number that a word is in two's complement, without a cast that could lose a bit.
+// The number that a word is in two's complement.
 pub fn signed(word: u64) -> i64
     ensures { result ≡ signed_of word }
 {
-    if word < 9223372036854775808 {
-        return word as i64;
-    }
-    -1 - (18446744073709551615 - word) as i64
+    word.cast_signed()
 }

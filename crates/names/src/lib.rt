@@ -60,12 +60,7 @@ pub fn same_attr(chain: Lent, v: Values, a: AttributeNo, b: AttributeNo) -> bool
 fn size(r: Range) -> u64
     ensures { result ≡ r.to - r.from }
 {
-    let a = r.from;
-    let e = r.to;
-    if e <= a {
-        return 0;
-    }
-    e - a
+    r.to.saturating_sub(r.from)
 }
 
 // Whether two RDNs, as ranges of attributes, are the same. The lengths are compared first.

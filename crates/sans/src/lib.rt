@@ -21,13 +21,16 @@ pub enum Kind {
     Ip,
 }
 
-fn number(k: Kind) -> u64
-    ensures { result ≡ number_of k }
-{
-    match k {
-        Kind::Dns => 0,
-        Kind::Directory => 1,
-        Kind::Ip => 2,
+// The word of a kind.
+impl From<Kind> for u64 {
+    ghost from_gives = { λ k n. n ≡ number_of k };
+
+    fn from(k: Kind) -> u64 {
+        match k {
+            Kind::Dns => 0,
+            Kind::Directory => 1,
+            Kind::Ip => 2,
+        }
     }
 }
 
@@ -35,14 +38,14 @@ fn number(k: Kind) -> u64
 pub fn is_kind(chain: Lent, n: NameNo, k: Kind) -> bool
     ensures { result ≡ is_kind k (general_at chain.entry.words.now chain.entry.bytes.now n.0) }
 {
-    general_names::kind(chain.words, n) == number(k)
+    general_names::kind(chain.words, n) == u64::from(k)
 }
 
 // Whether some name of a range is of a kind. The rows are read through a view.
 pub fn has_kind(chain: Lent, r: Range, k: Kind) -> bool
     ensures { result ≡ any (is_kind k) (generals_in chain.entry.words.now chain.entry.bytes.now r) }
 {
-    view::some_word(chain.words, NAMES, r, KIND, number(k))
+    view::some_word(chain.words, NAMES, r, KIND, u64::from(k))
 }
 
 // Whether the SAN of a certificate has a DNS name.

@@ -91,17 +91,11 @@ pub fn offset(words: &[u64], s: Section) -> u64
     0
 }
 
-// How many words n rows take, or as many as no slice has if that is more. Nothing wraps: the largest product is divided instead.
+// How many words n rows take, or as many as no slice has if that is more. Nothing wraps.
 fn words_of(size: u64, n: u64) -> u64
     ensures { result ≡ min (size * n) far }
 {
-    if size == 0 {
-        return 0;
-    }
-    if FAR / size < n {
-        return FAR;
-    }
-    size * n
+    n.saturating_mul(size).min(FAR)
 }
 
 // Where row n of a section begins, or as far as no slice goes: word j of the row is j words behind. No sum wraps: what is far past the end is not added.
@@ -157,20 +151,8 @@ pub fn string<'a>(lent: Lent<'a>, s: StringNo) -> &'a [u8]
 pub fn clip(first: u64, n: u64, rows: u64) -> Range
     ensures { result ≡ range_of first n rows }
 {
-    if rows <= first {
-        return Range {
-            from: first,
-            to: rows,
-        };
-    }
-    if rows - first <= n {
-        return Range {
-            from: first,
-            to: rows,
-        };
-    }
     Range {
         from: first,
-        to: first + n,
+        to: first.saturating_add(n).min(rows),
     }
 }

@@ -6,4 +6,4 @@ use Rattle.sans.proofs.has_kind.Goals as goal
 
 pub returns : goal.returns
 unfolding kind_at generals_in
-returns c = some_row _ _ _ _ _ _ _ c.some_word.ensures (λ n. kind_is _ _ _ _ refl c.number.ensures)
+returns c = some_row _ _ _ _ _ _ _ c.some_word.ensures (λ n. kind_is _ _ _ _ refl c.from.ensures)
