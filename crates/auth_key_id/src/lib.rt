@@ -9,24 +9,24 @@ ghost use Rattle.auth_key_id.specs.AuthKeyId.{key_id_is, same_key_id, same_seria
 
 use certs::cert_word;
 use certs::row::{AKI, AKI_KEY_ID, AKI_SERIAL, SERIAL, SKI, SKI_KEY_ID};
-use model::chain::CertRow;
+use model::chain::{CertRow, optional_string};
 use table::{Lent, StringNo};
 
-// Whether two strings of a bundle are equal.
-fn same_strings(chain: Lent, a: StringNo, b: StringNo) -> bool
-    ensures { result ≡ eq_list (string_of chain.entry.words.now chain.entry.bytes.now a.0) (string_of chain.entry.words.now chain.entry.bytes.now b.0) }
+// Whether a string of a bundle is a text.
+fn string_is(chain: Lent, n: StringNo, s: &[u8]) -> bool
+    ensures { result ≡ eq_list (string_of chain.entry.words.now chain.entry.bytes.now n.0) s.now }
 {
-    text::same(table::string(chain, a), table::string(chain, b))
+    text::same(table::string(chain, n), s)
 }
 
-// Whether the issuer's SKI, if it has one, is string k.
-fn key_id_is(chain: Lent, issuer: CertRow, k: StringNo) -> bool
-    ensures { result ≡ key_id_is (cert_at chain.entry.words.now chain.entry.bytes.now issuer.0) (string_of chain.entry.words.now chain.entry.bytes.now k.0) }
+// Whether the issuer's SKI, if it has one, is the key id.
+fn key_id_is(chain: Lent, issuer: CertRow, k: &[u8]) -> bool
+    ensures { result ≡ key_id_is (cert_at chain.entry.words.now chain.entry.bytes.now issuer.0) k.now }
 {
     if cert_word(chain.words, issuer, SKI) == 0 {
         return true;
     }
-    same_strings(
+    string_is(
         chain,
         StringNo(cert_word(chain.words, issuer, SKI_KEY_ID)),
         k,
@@ -37,26 +37,20 @@ fn key_id_is(chain: Lent, issuer: CertRow, k: StringNo) -> bool
 fn same_key_id(chain: Lent, issuer: CertRow, subject: CertRow) -> bool
     ensures { result ≡ same_key_id (cert_at chain.entry.words.now chain.entry.bytes.now issuer.0) (aki_at chain.entry.words.now chain.entry.bytes.now subject.0) }
 {
-    let k = cert_word(chain.words, subject, AKI_KEY_ID);
-    if k == 0 {
-        return true;
+    match optional_string(chain, cert_word(chain.words, subject, AKI_KEY_ID)) {
+        None => true,
+        Some(k) => key_id_is(chain, issuer, k),
     }
-    key_id_is(chain, issuer, StringNo(k - 1))
 }
 
 // Whether the serial in the subject's AKI, if there is one, is the issuer's.
 fn same_serial(chain: Lent, issuer: CertRow, subject: CertRow) -> bool
     ensures { result ≡ same_serial (cert_at chain.entry.words.now chain.entry.bytes.now issuer.0) (aki_at chain.entry.words.now chain.entry.bytes.now subject.0) }
 {
-    let k = cert_word(chain.words, subject, AKI_SERIAL);
-    if k == 0 {
-        return true;
+    match optional_string(chain, cert_word(chain.words, subject, AKI_SERIAL)) {
+        None => true,
+        Some(k) => string_is(chain, StringNo(cert_word(chain.words, issuer, SERIAL)), k),
     }
-    same_strings(
-        chain,
-        StringNo(cert_word(chain.words, issuer, SERIAL)),
-        StringNo(k - 1),
-    )
 }
 
 // Whether the subject's AKI, if it has one, names the issuer's key and serial.

@@ -11,9 +11,9 @@ ghost use Rattle.sans.specs.Sans.{dns_and, common_and, some_common};
 ghost use Rattle.hosts.specs.Hostname.{names_host, check_hostname, host_named};
 
 use certs::row::{SAN, SAN_NAMES, SUBJECT};
-use model::chain::{AttributeNo, CertRow, HOST, NAMES, NameNo, RDNS, RdnNo};
+use model::chain::{AttributeNo, CertRow, NAMES, NameNo, RDNS, RdnNo};
 use sans::Kind;
-use table::{Lent, Range, StringNo};
+use table::{Lent, Range};
 use text::Letters;
 
 fn names_host(host: &[u8], name: &[u8]) -> bool
@@ -111,9 +111,8 @@ pub fn check_hostname(chain: Lent, c: CertRow, host: &[u8]) -> bool
 pub fn host_named(chain: Lent, leaf: CertRow) -> bool
     ensures { result ≡ host_named (task_of chain.entry.words.now chain.entry.bytes.now) (cert_at chain.entry.words.now chain.entry.bytes.now leaf.0) }
 {
-    let h = table::word(chain.words, HOST);
-    if h == 0 {
-        return true;
+    match model::chain::host(chain) {
+        None => true,
+        Some(host) => check_hostname(chain, leaf, host),
     }
-    check_hostname(chain, leaf, table::string(chain, StringNo(h - 1)))
 }

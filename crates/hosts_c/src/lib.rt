@@ -11,9 +11,9 @@ ghost use Rattle.sans.specs.Sans.{dns_and};
 ghost use Rattle.hosts_c.specs.SanHost.{has_public_suffix, names_clean, match_san, host_named};
 
 use certs::row::{SAN, SAN_NAMES};
-use model::chain::{CertRow, HOST, NAMES, NameNo};
+use model::chain::{CertRow, NAMES, NameNo};
 use sans::Kind;
-use table::{Lent, Range, StringNo};
+use table::{Lent, Range};
 use text::Letters;
 
 // Whether a DNS name, once cleaned, matches the lowered host, or where only an exact one will do equals it.
@@ -77,10 +77,8 @@ fn match_san_domain(chain: Lent, lists: Lent, c: CertRow, host: &[u8]) -> bool
 pub fn host_named(chain: Lent, lists: Lent, leaf: CertRow) -> bool
     ensures { result ≡ host_named (lists_of lists.entry.words.now lists.entry.bytes.now) (task_of chain.entry.words.now chain.entry.bytes.now) (cert_at chain.entry.words.now chain.entry.bytes.now leaf.0) }
 {
-    let h = table::word(chain.words, HOST);
-    if h == 0 {
-        return true;
+    match model::chain::host(chain) {
+        None => true,
+        Some(host) => match_san_domain(chain, lists, leaf, patterns::names::clean_name(host)),
     }
-    let host = table::string(chain, StringNo(h - 1));
-    match_san_domain(chain, lists, leaf, patterns::names::clean_name(host))
 }

@@ -2,7 +2,7 @@
 use Prim.Native.Nat.{ℕ}
 use mathlib.Core.Path.{◌≡◌, refl, sym, ap, ◌∙◌}
 use mathlib.Core.Bool.{Bool, true, false, not, ◌&&◌, ◌||◌, not-not}
-use mathlib.Core.Option.{none, some}
+use mathlib.Core.Option.{Option, none, some}
 use lib.Dec.{eqb}
 use borrow.Author.Tests.{eq-eqb, ne_eqb}
 use Rattle.laws.specs.Lists.{pick}
@@ -63,3 +63,11 @@ module _ {A : Type 0} (w : ℕ) (x : A) {c : ℕ} (e : c ≡ w) where
       go : (t : Bool) → (not t && p x) ≡ there_and p (pick t none (some x))
       go true = refl
       go false = refl
+
+-- a part that was handed back, or was not
+module _ {A : Type 0} (p : A → Bool) {o : Option A} where
+  pub none_passes : o ≡ none → true ≡ if_there p o
+  none_passes e = rw e refl
+
+  pub some_passes : {x : A} {r : Bool} → o ≡ some x → r ≡ p x → r ≡ if_there p o
+  some_passes e h = rw e h

@@ -1,8 +1,9 @@
 // The chain bundle: words of its header, its sections, and the numbers of their rows.
 ghost use Rattle.std.specs.Prelude.{◌≡◌};
-ghost use Rattle.model.specs.Decode.{rows_in};
+ghost use Rattle.model.specs.Decode.{rows_in, optional_string, task_of};
+ghost use Rattle.model.specs.Shown.{Shows};
 
-use table::{CertPos, Range, Section};
+use table::{CertPos, Lent, Range, Section, StringNo};
 
 pub const ATTRIBUTES: Section = Section { count: 3, size: 2 };
 
@@ -51,4 +52,19 @@ pub fn rows_in(words: &[u64], s: Section, first: u64, n: u64) -> Range
     ensures { result ≡ rows_in words.now s first n }
 {
     table::clip(first, n, table::count(words, s))
+}
+
+// The string that a word gives: none where it is 0, and else the one whose number is one less.
+pub fn optional_string<'a>(chain: Lent<'a>, word: u64) -> Option<&'a [u8]>
+    ensures { Shows result (optional_string chain.entry.words.now chain.entry.bytes.now word) }
+{
+    let n = word.checked_sub(1)?;
+    Some(table::string(chain, StringNo(n)))
+}
+
+// The host, if there is one.
+pub fn host<'a>(chain: Lent<'a>) -> Option<&'a [u8]>
+    ensures { Shows result (task_of chain.entry.words.now chain.entry.bytes.now).host }
+{
+    optional_string(chain, table::word(chain.words, HOST))
 }

@@ -4,9 +4,9 @@ ghost use Rattle.text.specs.Texts.{lowered};
 ghost use Rattle.model.specs.Decode.{cert_at, task_of, list_at, lists_of};
 ghost use Rattle.roots.specs.Fingerprints.{not_in_crl, serves_domains, serves_host, valid_root_fingerprint};
 
-use model::chain::{CertRow, HOST};
+use model::chain::CertRow;
 use model::policy::ListNo;
-use table::{Lent, StringNo};
+use table::Lent;
 
 // Whether the policy does not revoke a certificate.
 pub fn not_in_crl(chain: Lent, lists: Lent, c: CertRow) -> bool
@@ -58,9 +58,8 @@ fn serves_host(chain: Lent, lists: Lent, root: CertRow, host: &[u8]) -> bool
 pub fn valid_root_fingerprint(chain: Lent, lists: Lent, root: CertRow) -> bool
     ensures { result ≡ valid_root_fingerprint (lists_of lists.entry.words.now lists.entry.bytes.now) (task_of chain.entry.words.now chain.entry.bytes.now) (cert_at chain.entry.words.now chain.entry.bytes.now root.0) }
 {
-    let h = table::word(chain.words, HOST);
-    if h == 0 {
-        return true;
+    match model::chain::host(chain) {
+        None => true,
+        Some(host) => serves_host(chain, lists, root, host),
     }
-    serves_host(chain, lists, root, table::string(chain, StringNo(h - 1)))
 }

@@ -1,13 +1,12 @@
-use mathlib.Core.Path.{sym, ◌∙◌}
-use Rattle.model.specs.Decode.{optional_string}
-use Rattle.model.proofs.Optional.{absent_passes, present_passes}
+-- Assumes nothing.
+use Rattle.model.proofs.Optional.{none_passes, some_passes}
 use Rattle.auth_key_id.specs.AuthKeyId.{same_key_id}
 use Rattle.auth_key_id.proofs.same_key_id.Goals as goal
 
-pub returns-then-k-eq0 : goal.returns-then-k-eq0
-unfolding same_key_id optional_string
-returns-then-k-eq0 c = absent_passes _ _ _ (sym c.cert_word-k.ensures ∙ c.if-k-eq0.true)
+pub returns-in-None : goal.returns-in-None
+unfolding same_key_id
+returns-in-None c = none_passes _ (rw c.cert_word.ensures at c.in-None.ensures)
 
-pub returns : goal.returns
-unfolding same_key_id optional_string
-returns c = present_passes _ _ _ (λ z. c.if-k-eq0.false (c.cert_word-k.ensures ∙ z)) (rw (← c.cert_word-k.ensures) c.key_id_is.ensures)
+pub returns-in-Some : goal.returns-in-Some
+unfolding same_key_id
+returns-in-Some c = some_passes _ (rw c.cert_word.ensures at c.in-Some.ensures) c.key_id_is.ensures

@@ -1,13 +1,12 @@
-use mathlib.Core.Path.{sym, ◌∙◌}
-use Rattle.model.specs.Decode.{optional_string}
-use Rattle.model.proofs.Optional.{absent_passes, present_passes}
+-- Assumes nothing.
+use Rattle.model.proofs.Optional.{none_passes, some_passes}
 use Rattle.hosts_c.specs.SanHost.{host_named}
 use Rattle.hosts_c.proofs.host_named.Goals as goal
 
-pub returns-then-h-eq0 : goal.returns-then-h-eq0
-unfolding host_named optional_string
-returns-then-h-eq0 c = absent_passes _ _ _ (sym c.word-h.ensures ∙ c.if-h-eq0.true)
+pub returns-in-None : goal.returns-in-None
+unfolding host_named
+returns-in-None c = none_passes _ c.in-None.ensures
 
-pub returns : goal.returns
-unfolding host_named optional_string
-returns c = present_passes _ _ _ (λ e. c.if-h-eq0.false (c.word-h.ensures ∙ e)) (rw (c.clean_name.ensures.clean, c.string-host.ensures, c.word-h.ensures) at c.match_san_domain.ensures)
+pub returns-in-Some : goal.returns-in-Some
+unfolding host_named
+returns-in-Some c = some_passes _ c.in-Some.ensures (rw c.clean_name.ensures.clean at c.match_san_domain.ensures)

@@ -1,13 +1,12 @@
-use mathlib.Core.Path.{sym, ◌∙◌}
-use Rattle.model.specs.Decode.{optional_string}
-use Rattle.model.proofs.Optional.{absent_passes, present_passes}
+-- Assumes nothing.
+use Rattle.model.proofs.Optional.{none_passes, some_passes}
 use Rattle.roots.specs.Fingerprints.{valid_root_fingerprint}
 use Rattle.roots.proofs.fingerprints.valid_root_fingerprint.Goals as goal
 
-pub returns-then-h-eq0 : goal.returns-then-h-eq0
-unfolding valid_root_fingerprint optional_string
-returns-then-h-eq0 c = absent_passes _ _ _ (sym c.word-h.ensures ∙ c.if-h-eq0.true)
+pub returns-in-None : goal.returns-in-None
+unfolding valid_root_fingerprint
+returns-in-None c = none_passes _ c.in-None.ensures
 
-pub returns : goal.returns
-unfolding valid_root_fingerprint optional_string
-returns c = present_passes _ _ _ (λ e. c.if-h-eq0.false (c.word-h.ensures ∙ e)) (rw (← c.word-h.ensures, ← c.string.ensures) c.serves_host.ensures)
+pub returns-in-Some : goal.returns-in-Some
+unfolding valid_root_fingerprint
+returns-in-Some c = some_passes _ c.in-Some.ensures c.serves_host.ensures
