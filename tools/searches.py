@@ -1,4 +1,4 @@
-"""The proofs of functions that look at one thing after the other: in crate sections the sections, in crate lines lines and groups of lines, in crate search the rows of a line, in crate
+"""The proofs of functions that look at one thing after the other: in crate sections the sections, in crate lines lines and groups of lines, in crate
 quick the rows of a section."""
 
 import re
@@ -22,14 +22,6 @@ SECTIONS = {"chain_misplaced": ("chain_header", 6), "policy_misplaced": ("policy
 GROUPS = {
     "chain_wrong": ["tables_out", "cert_strings_out", "cert_ranges_out", "codes_over", "marks_over", "names_high"],
     "policy_wrong": ["lists_out", "entries_high"],
-}
-# A loop over the rows of a line: what its test asks of a row that begins at q, the test's function, and the goal that holds, as `overflow_add-q` does, since the row lies in the bundle.
-LOOPS = {
-    "first_no_string": ("no_string l.words ({q} + l.j)", "no_string", "overflow_add-q-in-loop-i"),
-    "first_string_out": ("string_out l.words l.bytes ({q} + l.j)", "string_out", "overflow_add-q-in-loop-i"),
-    "first_no_range": ("no_range l.words l.s ({q} + l.j)", "no_range", "overflow_add-q-in-loop-i"),
-    "first_high": ("high_string l.words l.bytes (word l.words ({q} + l.j))", "number_high", "overflow_add-q-in-loop-i"),
-    "first_wrong": ("wrong l.t l.words l.bytes {q} l.j", "is_wrong", "is_wrong-requires"),
 }
 # A loop over the rows of a section: the section, the function that asks a row, and the other sections whose counts it takes.
 FINE = {
@@ -93,32 +85,6 @@ LOOP_USES = [
 ]
 
 
-def of_loop(name, definition, test, within):
-    uses = [
-        *LOOP_USES,
-        "Rattle.laws.specs.Lists.{least}",
-        "Rattle.laws.proofs.Loops.{least_none}",
-        "Rattle.row_tests.specs.Wrong.{no_string, string_out, no_range, high_string, wrong}",
-        "Rattle.table.specs.Table.{word}",
-        "Rattle.search.proofs.Steps.{row_first, row_next, row_fits, row_here, row_later}",
-    ]
-    kept = "c.loop-i.invariant"
-    fits = f"omega (arith, {kept}.0, row_fits _ _ _ _ _ c.loop-i-test.true {kept}.2)"
-    row = f"(λ (q : ℕ). {at_entry(definition.format(q='q'))}) _ _ _ _ c.loop-i-test.true {kept}.0 c.{test}.ensures c.if-{test}"
-    answers = {
-        "loop-i-init": "(row_first _ _, omega arith, c.requires, refl)",
-        "overflow_add-q": fits,
-        within: fits,
-        f"returns-then-{test}": f"row_here {row}.true {kept}.3",
-        "loop-i-preserved": f"(row_next _ _ _ {kept}.0, omega arith, {kept}.2, row_later {row}.false {kept}.3)",
-        "returns": f"least_none _ _ _ c.loop-i-test.false {kept}.3",
-    }
-    least = f"least (λ k. {definition.format(q='(l.initial.q + l.size * k)')})"
-    facts = ["(l.q ≡ l.initial.q + l.size * l.i)", "(l.i ≤ l.count)", "(l.initial.q + l.size * l.count ≤ length l.words)"]
-    facts.append(f"({least} 0 l.count ≡ {least} l.i l.count)")
-    return sheets("search", name, LOOP_HEAD, uses, answers, {"invariant-loop-i": " × ".join(facts), "decreases-loop-i": "l.count - l.i"})
-
-
 def fine_uses(section, counts):
     return [
         *LOOP_USES,
@@ -175,8 +141,6 @@ def files():
         made |= of_groups(name, groups)
     for name, section in SECTIONS.items():
         made |= of_sections(name, *section)
-    for name, loop in LOOPS.items():
-        made |= of_loop(name, *loop)
     for name, loop in FINE.items():
         made |= of_fine(name, *loop)
     return made
