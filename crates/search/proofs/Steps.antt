@@ -2,7 +2,7 @@
 use Prim.Native.Nat.{ℕ, ◌+◌, ◌-◌, ◌*◌, ◌≤◌, ◌<◌, min}
 use native.Mathlib.Omega.{arith}
 use native.Mathlib.Decide.{dec_lt}
-use native.Mathlib.Nat.{mul-le-mul_left, one-mul, mul-zero, mul-suc, add-zero}
+use native.Mathlib.Nat.{mul-le-mul_left, one-mul, mul-suc}
 use native.Mathlib.Numerals.{add-one}
 use mathlib.Core.Path.{◌≡◌, refl, sym, ap, ◌∙◌}
 use mathlib.Core.List.{List}
@@ -98,10 +98,7 @@ searched_fit w (Listed p) = go (misplaced 0 w entries) refl where
   go false e = let k = section_lies w entries e refl in range_fits w (record { from = word w p; to = min (word w p + word w (p + 1)) (count_of w entries) }) (omega arith) (omega arith)
 
 -- the next row begins after this one
-pub row_first : (at size : ℕ) → at ≡ at + size * 0
-row_first at size = rw (mul-zero, add-zero) refl
-
-pub row_next : (at size i : ℕ) {q : ℕ} → q ≡ at + size * i → q + size ≡ at + size * (i + 1)
+row_next : (at size i : ℕ) {q : ℕ} → q ≡ at + size * i → q + size ≡ at + size * (i + 1)
 row_next at size i e = rw (add-one, mul-suc) (omega arith)
 
 -- a row below the count ends no later than the last
