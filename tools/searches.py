@@ -1,7 +1,6 @@
-"""The proofs of functions that look at one thing after the other: in crate sections the sections, in crate lines lines and groups of lines, in crate search the rows of a line, in crate
-quick the rows of a section."""
+"""The proofs of functions that look at one thing after the other: in crate sections the sections, in crate lines lines and groups of
+lines."""
 
-import re
 from collections import Counter
 
 from sheets import sheets
@@ -23,21 +22,7 @@ GROUPS = {
     "chain_wrong": ["tables_out", "cert_strings_out", "cert_ranges_out", "codes_over", "marks_over", "names_high"],
     "policy_wrong": ["lists_out", "entries_high"],
 }
-# A loop over the rows of a line: what its test asks of a row that begins at q, the test's function, and the goal that holds, as `overflow_add-q` does, since the row lies in the bundle.
-LOOPS = {
-    "first_no_string": ("no_string l.words ({q} + l.j)", "no_string", "overflow_add-q-in-loop-i"),
-    "first_string_out": ("string_out l.words l.bytes ({q} + l.j)", "string_out", "overflow_add-q-in-loop-i"),
-    "first_no_range": ("no_range l.words l.s ({q} + l.j)", "no_range", "overflow_add-q-in-loop-i"),
-    "first_high": ("high_string l.words l.bytes (word l.words ({q} + l.j))", "number_high", "overflow_add-q-in-loop-i"),
-    "first_wrong": ("wrong l.t l.words l.bytes {q} l.j", "is_wrong", "is_wrong-requires"),
-}
-# A loop over the rows of a section: the section, the function that asks a row, and the other sections whose counts it takes.
-FINE = {
-    "attributes_fine": ("attributes", "attribute_fits", ["strings"]),
-    "names_fine": ("names", "name_fits", ["strings", "rdns"]),
-}
 HEAD = "-- Written by tools/searches.py. Assumes nothing."
-LOOP_HEAD = "-- The rows that were passed are right. Written by tools/searches.py. Assumes nothing."
 
 
 def ensured(calls):
@@ -47,11 +32,6 @@ def ensured(calls):
         seen[call] += 1
         yield f"c.{call}-f{f'-{seen[call]}' if seen[call] > 1 else ''}.ensures"
     yield f"c.{calls[-1]}.ensures"
-
-
-def at_entry(text):
-    """What an invariant says of parameters, as an answer says it."""
-    return re.sub(r"\bl\.(\w+)", lambda found: f"c.args.{found[1]}" + (".now" if found[1] in ("words", "bytes") else ""), text)
 
 
 def one_by_one(found, calls):
@@ -85,88 +65,6 @@ def of_groups(name, groups):
     return sheets("lines", name, HEAD, uses, {"returns": "(".join(then) + last + (len(then) - 1) * ")"})
 
 
-LOOP_USES = [
-    "Prim.Native.Nat.{ℕ, ◌+◌, ◌*◌, ◌-◌, ◌≤◌}",
-    "native.Mathlib.Omega.{arith}",
-    "mathlib.Core.Path.{◌≡◌, refl, sym}",
-    "lib.ListN.{length}",
-]
-
-
-def of_loop(name, definition, test, within):
-    uses = [
-        *LOOP_USES,
-        "Rattle.laws.specs.Lists.{least}",
-        "Rattle.laws.proofs.Loops.{least_none}",
-        "Rattle.row_tests.specs.Wrong.{no_string, string_out, no_range, high_string, wrong}",
-        "Rattle.table.specs.Table.{word}",
-        "Rattle.search.proofs.Steps.{row_first, row_next, row_fits, row_here, row_later}",
-    ]
-    kept = "c.loop-i.invariant"
-    fits = f"omega (arith, {kept}.0, row_fits _ _ _ _ _ c.loop-i-test.true {kept}.2)"
-    row = f"(λ (q : ℕ). {at_entry(definition.format(q='q'))}) _ _ _ _ c.loop-i-test.true {kept}.0 c.{test}.ensures c.if-{test}"
-    answers = {
-        "loop-i-init": "(row_first _ _, omega arith, c.requires, refl)",
-        "overflow_add-q": fits,
-        within: fits,
-        f"returns-then-{test}": f"row_here {row}.true {kept}.3",
-        "loop-i-preserved": f"(row_next _ _ _ {kept}.0, omega arith, {kept}.2, row_later {row}.false {kept}.3)",
-        "returns": f"least_none _ _ _ c.loop-i-test.false {kept}.3",
-    }
-    least = f"least (λ k. {definition.format(q='(l.initial.q + l.size * k)')})"
-    facts = ["(l.q ≡ l.initial.q + l.size * l.i)", "(l.i ≤ l.count)", "(l.initial.q + l.size * l.count ≤ length l.words)"]
-    facts.append(f"({least} 0 l.count ≡ {least} l.i l.count)")
-    return sheets("search", name, LOOP_HEAD, uses, answers, {"invariant-loop-i": " × ".join(facts), "decreases-loop-i": "l.count - l.i"})
-
-
-def fine_uses(section, counts):
-    return [
-        *LOOP_USES,
-        "Rattle.laws.specs.Lists.{numbers, all}",
-        "Rattle.laws.proofs.Loops.{all_none}",
-        "Rattle.table.specs.Table.{count_of, strings}",
-        f"Rattle.model.specs.Sections.{{{', '.join([section, *counts[1:]])}}}",
-        "Rattle.search.specs.declared.Block.TheVariants.{All}",
-        "Rattle.search.proofs.Steps.{row_first, row_next}",
-        "Rattle.lines.specs.Tables.{chain_lines}",
-        "Rattle.quick_certs.specs.Asked.{row_fine, rows_fine, lines_of}",
-        "Rattle.quick_certs.proofs.Steps.{rows_as, row_stops, row_passes}",
-        "Rattle.quick.specs.Asked.{StringsLie}",
-    ]
-
-
-def fine_answers(section, test, counts, fine):
-    """The goals of a loop over a section. The invariant has the place first, then what is required, the counts, and what is left to ask."""
-    kept, last = "c.loop-i.invariant", 3 + len(counts)
-    both = ", ".join(f"{kept}.{k}" for k in range(2, last))
-    n, q = "c.count-n.ensures", "c.offset-q.ensures"
-    counted = ", ".join(f"c.count-{count}.ensures" for count in counts)
-    row = f"({at_entry(fine)}) _ _ _ _ c.loop-i-test.true {kept}.0 c.{test}.ensures c.if-{test}"
-    start = f"sym (rows_as _ _ {section} {section}.count {q} {n} refl)"
-    return {
-        "loop-i-init": f"(row_first _ {section}.size, omega (arith, c.requires.0, {n}, {q}), c.requires.1, {counted}, {start})",
-        f"{test}-requires": f"(omega (arith, {kept}.0, {kept}.1), {both})",
-        "overflow_add-q": f"omega (arith, {kept}.0, {kept}.1)",
-        "loop-i-preserved": f"(row_next _ _ _ {kept}.0, {kept}.1, {both}, row_passes {row}.true {kept}.{last})",
-        f"returns-else-{test}": f"row_stops {row}.false {kept}.{last}",
-        "returns": f"all_none _ _ _ _ c.loop-i-test.false {kept}.{last}",
-    }
-
-
-def of_fine(name, section, test, counts):
-    lines = f"(lines_of {section}.count chain_lines)"
-    fine = f"row_fine l.words l.bytes {lines}"
-    facts = [
-        f"(l.q ≡ l.initial.q + {section}.size * l.i)",
-        f"(l.initial.q + {section}.size * l.n ≤ length l.words)",
-        "StringsLie l.words l.bytes",
-        *(f"(l.{count} ≡ count_of l.words {count})" for count in counts),
-        f"(rows_fine l.words l.bytes {lines} (All {section}) ≡ all (λ k. {fine} (l.initial.q + {section}.size * k)) (numbers l.i l.n))",
-    ]
-    invariants = {"invariant-loop-i": " × ".join(facts), "decreases-loop-i": "l.n - l.i"}
-    return sheets("quick", name, LOOP_HEAD, fine_uses(section, counts), fine_answers(section, test, counts, fine), invariants)
-
-
 def files():
     made = {}
     for name, calls in LINES.items():
@@ -175,8 +73,4 @@ def files():
         made |= of_groups(name, groups)
     for name, section in SECTIONS.items():
         made |= of_sections(name, *section)
-    for name, loop in LOOPS.items():
-        made |= of_loop(name, *loop)
-    for name, loop in FINE.items():
-        made |= of_fine(name, *loop)
     return made

@@ -1,6 +1,5 @@
 pub mod Chain
 pub mod Rows
-pub mod Steps
 pub mod Strings
 pub mod Theorems
 pub mod Whole

@@ -1,24 +1,21 @@
 -- The rows of the tables and the header, as they are asked. Assumes nothing.
-use Prim.Native.Nat.{ℕ, ◌+◌, ◌*◌, ◌-◌, ◌<◌}
+use Prim.Native.Nat.{ℕ, ◌+◌, ◌-◌, ◌<◌}
 use native.Mathlib.Omega.{arith}
 use native.Mathlib.Decide.{dec_lt}
-use native.Mathlib.Nat.{add-zero, one-mul}
+use native.Mathlib.Nat.{add-zero}
 use mathlib.Core.Path.{◌≡◌, refl, sym, ap, ◌∙◌}
 use mathlib.Core.Logic.{inl, inr, ⊎_elim}
 use mathlib.Core.List.{List}
 use mathlib.Core.Bool.{Bool, false, not, ◌&&◌, and_assoc, and-true, not-not}
 use lib.Dec.{leb, ltb, eqb}
 use borrow.Author.Tests.{lt-ltb, le-ltb, le-leb, lt-leb, ne_eqb}
-use Rattle.laws.specs.Lists.{numbers, all}
-use Rattle.table.specs.Table.{word, count_of, offset_of, strings}
+use Rattle.table.specs.Table.{word, count_of, strings}
 use Rattle.model.specs.Sections.{attributes, rdns, names, usages}
 use Rattle.row_tests.specs.Wrong.{no_string, no_optional, no_range, over, there, high_string, name_out}
 use Rattle.row_tests.proofs.Reasons.{name_text_law, name_directory, name_unread, dns_name, dns_other}
-use Rattle.search.specs.declared.Block.TheVariants.{All}
-use Rattle.search.specs.Rows.{rows_of}
 use Rattle.lines.specs.Tables.{chain_lines}
-use Rattle.quick_certs.specs.Asked.{row_fine, rows_fine, lines_of}
-use Rattle.quick_certs.proofs.Tests.{at_most, number_right, fine_more, fine_last}
+use Rattle.quick_certs.specs.Asked.{row_fine, lines_of}
+use Rattle.quick_certs.proofs.Tests.{at_most, number_right, over_right, fine_more, fine_last}
 
 -- a string that is there, without a high byte
 pub such_string : (n count : ℕ) {r high : Bool} → n < count → r ≡ high → not r ≡ (not (leb count n) && not high)
@@ -85,11 +82,10 @@ module _ (w b : List ℕ) {host purpose : ℕ} (e : host ≡ word w 13) (f : pur
         ]
 
 -- ---- R and U
-module _ (w b : List ℕ) {at n : ℕ} where
-  pub rdn_rows : {count : ℕ} {r : Bool} → at ≡ offset_of w rdns → n ≡ count_of w rdns → count ≡ count_of w attributes → r ≡ all (λ i. not (ltb count (word w (at + 2 * i) + word w (at + 2 * i + 1)))) (numbers 0 n) → r ≡ rows_fine w b (lines_of rdns.count chain_lines) (All rdns)
-  unfolding rows_fine row_fine rows_of all no_range
-  rdn_rows e f g t = t ∙ rw (e, f, g) (simp (add-zero, and-true))
+module _ (w b : List ℕ) (q : ℕ) {r : Bool} where
+  pub rdn_row : {count : ℕ} → count ≡ count_of w attributes → r ≡ not (ltb count (word w q + word w (q + 1))) → r ≡ row_fine w b (lines_of rdns.count chain_lines) q
+  unfolding no_range
+  rdn_row e t = fine_last w b q _ (t ∙ rw (e, add-zero) refl)
 
-  pub usage_rows : {r : Bool} → at ≡ offset_of w usages → n ≡ count_of w usages → r ≡ all (λ i. not (leb 8 (word w (at + i)))) (numbers 0 n) → r ≡ rows_fine w b (lines_of usages.count chain_lines) (All usages)
-  unfolding rows_fine row_fine rows_of all over
-  usage_rows e f t = t ∙ rw (e, f) (simp (one-mul, add-zero, and-true))
+  pub usage_row : r ≡ leb (word w q) 7 → r ≡ row_fine w b (lines_of usages.count chain_lines) q
+  usage_row t = fine_last w b q _ (t ∙ rw add-zero (over_right w 7 q))

@@ -22,8 +22,9 @@ module _ (w b : List ℕ) where
   unfolding line_fine rows_of string_out
   string_rows = simp add-zero
 
-  pub strings_line : {at n : ℕ} {r : Bool} → at ≡ offset_of w strings → n ≡ count_of w strings → r ≡ all (λ i. not (ltb (length b) (word w (at + 2 * i) + word w (at + 2 * i + 1)))) (numbers 0 n) → r ≡ line_fine w b string_line
-  strings_line e f t = t ∙ rw (e, f) (sym string_rows)
+  pub string_row : (q : ℕ) {r : Bool} → r ≡ not (ltb (length b) (word w q + word w (q + 1))) → r ≡ not (string_out w b (q + 0))
+  unfolding string_out
+  string_row q t = t ∙ rw add-zero refl
 
   module _ (h : StringsLie w b) (n : ℕ) (l : n < count_of w strings) {at : ℕ} (e : at ≡ offset_of w strings) where
     pub string_ends : word w (at + 2 * n) + word w (at + 2 * n + 1) ≤ length b

@@ -1,13 +1,12 @@
--- A loop over rows that are all to be right, and the section that they are in. Assumes nothing.
-use Prim.Native.Nat.{ℕ, ◌+◌, ◌*◌, ◌<◌}
-use mathlib.Core.Path.{◌≡◌, refl, sym, ap, ◌∙◌}
+-- The rows of a section, and the section in its place. Assumes nothing.
+use Prim.Native.Nat.{ℕ, ◌+◌, ◌*◌}
+use mathlib.Core.Path.{◌≡◌, refl, sym, ◌∙◌}
 use mathlib.Core.List.{List}
 use mathlib.Core.Bool.{Bool, true, false}
 use lib.Dec.{ltb}
 use lib.ListN.{length}
 use borrow.Author.Tests.{ltb-false}
 use Rattle.laws.specs.Lists.{numbers, all}
-use Rattle.laws.proofs.Loops.{all_here, all_next}
 use Rattle.laws.proofs.Tests.{or_right}
 use Rattle.table.specs.Table.{count_of, offset_of}
 use Rattle.table.specs.declared.Section.{Section}
@@ -17,14 +16,6 @@ use Rattle.search.specs.declared.Block.TheVariants.{All}
 use Rattle.search.specs.Rows.{rows_of}
 use Rattle.lines.specs.Tables.{chain_lines}
 use Rattle.quick_certs.specs.Asked.{row_fine, rows_fine, lines_of, certs_fine, Lies}
-
--- row i, which begins at q, is asked by p
-module _ (p : ℕ → Bool) (at size i count : ℕ) {q : ℕ} {whole : Bool} {r : Bool} (l : i < count) (e : q ≡ at + size * i) (t : r ≡ p q) where
-  pub row_stops : r ≡ false → whole ≡ all (λ k. p (at + size * k)) (numbers i count) → false ≡ whole
-  row_stops y h = all_here (λ k. p (at + size * k)) (λ n. n) i count l (t ∙ ap p e) y h
-
-  pub row_passes : r ≡ true → whole ≡ all (λ k. p (at + size * k)) (numbers i count) → whole ≡ all (λ k. p (at + size * k)) (numbers (i + 1) count)
-  row_passes y h = all_next (λ k. p (at + size * k)) (λ n. n) i count l (t ∙ ap p e) y h
 
 -- a section in its place lies in the words
 pub placed_lies : (header : ℕ) (w : List ℕ) (s : Section) {m : Bool} → m ≡ misplaced header w s → m ≡ false → Lies w s

@@ -149,17 +149,7 @@ fn certs_fit(words: &[u64], at: usize, n: usize, k: Counts) -> bool
     requires { (at + certRows.size * n ≤ length words.now) × Counted words.now k }
     ensures { (b : List ℕ) → result ≡ all (λ i. row_fine words.now b (lines_of certRows.count chain_lines) (at + certRows.size * i)) (numbers 0 n) }
 {
-    let mut q = at;
-    let mut i = 0;
-    while i < n {
-        if cert_fits(words, q, k) {
-            q += CERTS.size as usize;
-            i += 1;
-        } else {
-            return false;
-        }
-    }
-    true
+    (0..n).all(|i| cert_fits(words, at + CERTS.size as usize * i, k))
 }
 
 // Whether C is in its place, and each certificate's row right.

@@ -6,7 +6,7 @@ ghost use Rattle.table.specs.Table.{word as word_of};
 ghost use Rattle.row_tests.specs.Wrong.{no_string, no_optional, no_range, over, there, high_string, string_out, name_out, some_part, extensions_wrong, wrong};
 
 use model::chain::RDNS;
-use table::{STRINGS, Section, StringNo, word};
+use table::{Lent, STRINGS, Section, StringNo, word};
 
 // What is looked for in a word of a row. The first number of a part's test is the word that marks the part.
 #[derive(Clone, Copy)]
@@ -77,20 +77,24 @@ fn there(words: &[u64], p: usize) -> bool
 }
 
 // Whether a string has a byte over 127.
-fn high_string(words: &[u64], bytes: &[u8], n: StringNo) -> bool
-    ensures { result ≡ high_string words.now bytes.now n.0 }
+fn high_string(lent: Lent, n: StringNo) -> bool
+    ensures { result ≡ high_string lent.entry.words.now lent.entry.bytes.now n.0 }
 {
-    ascii::has_high(table::string(words, bytes, n))
+    ascii::has_high(table::string(lent, n))
 }
 
 // Whether the string with start and length at p and p + 1 ends outside the bytes.
-pub fn string_out(words: &[u64], bytes: &[u8], p: usize) -> bool
-    ensures { result ≡ string_out words.now bytes.now p }
+pub fn string_out(lent: Lent, p: usize) -> bool
+    ensures { result ≡ string_out lent.entry.words.now lent.entry.bytes.now p }
 {
-    if words.len() <= p {
+    if lent.words.len() <= p {
         return false;
     }
-    ends_past(word(words, p), word(words, p + 1), bytes.len() as u64)
+    ends_past(
+        word(lent.words, p),
+        word(lent.words, p + 1),
+        lent.bytes.len() as u64,
+    )
 }
 
 // Whether the name at q has an x, or an x and y, that its kind does not allow.
@@ -131,31 +135,31 @@ fn extensions_wrong(words: &[u64], q: usize) -> bool
 }
 
 // Whether the string whose number is at p has a byte over 127.
-pub fn number_high(words: &[u64], bytes: &[u8], p: usize) -> bool
-    ensures { result ≡ high_string words.now bytes.now (word_of words.now p) }
+pub fn number_high(lent: Lent, p: usize) -> bool
+    ensures { result ≡ high_string lent.entry.words.now lent.entry.bytes.now (word_of lent.entry.words.now p) }
 {
-    high_string(words, bytes, StringNo(word(words, p)))
+    high_string(lent, StringNo(word(lent.words, p)))
 }
 
 // The same of the DNS name at p, if the name that begins at q is one.
-fn dns_high(words: &[u64], bytes: &[u8], q: usize, p: usize) -> bool
-    ensures { result ≡ (eqb (word_of words.now q) 0 && high_string words.now bytes.now (word_of words.now p)) }
+fn dns_high(lent: Lent, q: usize, p: usize) -> bool
+    ensures { result ≡ (eqb (word_of lent.entry.words.now q) 0 && high_string lent.entry.words.now lent.entry.bytes.now (word_of lent.entry.words.now p)) }
 {
-    if word(words, q) != 0 {
+    if word(lent.words, q) != 0 {
         return false;
     }
-    number_high(words, bytes, p)
+    number_high(lent, p)
 }
 
 // The same of an optional string, if it is there.
-fn optional_high(words: &[u64], bytes: &[u8], p: usize) -> bool
-    ensures { result ≡ (there words.now p && high_string words.now bytes.now (word_of words.now p - 1)) }
+fn optional_high(lent: Lent, p: usize) -> bool
+    ensures { result ≡ (there lent.entry.words.now p && high_string lent.entry.words.now lent.entry.bytes.now (word_of lent.entry.words.now p - 1)) }
 {
-    let n = word(words, p);
+    let n = word(lent.words, p);
     if n == 0 {
         return false;
     }
-    high_string(words, bytes, StringNo(n - 1))
+    high_string(lent, StringNo(n - 1))
 }
 
 // A row that begins past the last word reads as one that begins right behind it: as zeros.
@@ -169,33 +173,33 @@ fn within(words: &[u64], q: usize) -> usize
 }
 
 // The same as `is_wrong` of a row that does not begin past the end, so that no sum wraps.
-fn is_wrong_within(words: &[u64], bytes: &[u8], t: Test, q: usize, j: u8) -> bool
-    requires { q ≤ length words.now }
-    ensures { result ≡ wrong t words.now bytes.now q j }
+fn is_wrong_within(lent: Lent, t: Test, q: usize, j: u8) -> bool
+    requires { q ≤ length lent.words.now }
+    ensures { result ≡ wrong t lent.entry.words.now lent.entry.bytes.now q j }
 {
     let p = q + j as usize;
     match t {
-        Test::StringOut => string_out(words, bytes, p),
-        Test::NumberOut => no_string(words, p),
-        Test::OptionalOut => no_optional(words, p),
-        Test::RangeOut(s) => no_range(words, s, p),
-        Test::NameOut => name_out(words, q),
-        Test::PartNumber(m) => there(words, q + m as usize) & no_string(words, p),
-        Test::PartOptional(m) => there(words, q + m as usize) & no_optional(words, p),
-        Test::PartRange(m, s) => there(words, q + m as usize) & no_range(words, s, p),
-        Test::Over(most) => over(words, most, p),
-        Test::PartOver(m, most) => there(words, q + m as usize) & over(words, most, p),
-        Test::Extensions => extensions_wrong(words, q),
-        Test::NumberHigh => number_high(words, bytes, p),
-        Test::DnsHigh => dns_high(words, bytes, q, p),
-        Test::OptionalHigh => optional_high(words, bytes, p),
-        Test::NotZero => there(words, p),
+        Test::StringOut => string_out(lent, p),
+        Test::NumberOut => no_string(lent.words, p),
+        Test::OptionalOut => no_optional(lent.words, p),
+        Test::RangeOut(s) => no_range(lent.words, s, p),
+        Test::NameOut => name_out(lent.words, q),
+        Test::PartNumber(m) => there(lent.words, q + m as usize) & no_string(lent.words, p),
+        Test::PartOptional(m) => there(lent.words, q + m as usize) & no_optional(lent.words, p),
+        Test::PartRange(m, s) => there(lent.words, q + m as usize) & no_range(lent.words, s, p),
+        Test::Over(most) => over(lent.words, most, p),
+        Test::PartOver(m, most) => there(lent.words, q + m as usize) & over(lent.words, most, p),
+        Test::Extensions => extensions_wrong(lent.words, q),
+        Test::NumberHigh => number_high(lent, p),
+        Test::DnsHigh => dns_high(lent, q, p),
+        Test::OptionalHigh => optional_high(lent, p),
+        Test::NotZero => there(lent.words, p),
     }
 }
 
 // Whether word j of the row at q is wrong in the way that the test looks for.
-pub fn is_wrong(words: &[u64], bytes: &[u8], t: Test, q: usize, j: u8) -> bool
-    ensures { result ≡ wrong t words.now bytes.now q j }
+pub fn is_wrong(lent: Lent, t: Test, q: usize, j: u8) -> bool
+    ensures { result ≡ wrong t lent.entry.words.now lent.entry.bytes.now q j }
 {
-    is_wrong_within(words, bytes, t, within(words, q), j)
+    is_wrong_within(lent, t, within(lent.words, q), j)
 }

@@ -2,7 +2,7 @@
 use Prim.Native.Nat.{ℕ, ◌+◌, ◌-◌, ◌*◌, ◌≤◌, ◌<◌, min}
 use native.Mathlib.Omega.{arith}
 use native.Mathlib.Decide.{dec_lt}
-use native.Mathlib.Nat.{mul-le-mul_left, one-mul, mul-zero, mul-suc, add-zero}
+use native.Mathlib.Nat.{mul-le-mul_left, one-mul, mul-suc}
 use native.Mathlib.Numerals.{add-one}
 use mathlib.Core.Path.{◌≡◌, refl, sym, ap, ◌∙◌}
 use mathlib.Core.List.{List}
@@ -11,15 +11,15 @@ use lib.Dec.{ltb}
 use lib.ListN.{length}
 use borrow.Author.Tests.{ltb-true, ltb-false, lt-ltb, le-ltb, ne_eqb}
 use Rattle.laws.specs.Lists.{least, pick}
-use Rattle.laws.proofs.Loops.{least_here, least_next}
 use Rattle.laws.proofs.Tests.{or_right}
 use Rattle.table.specs.Table.{word, count_of, offset_of, range_of}
 use Rattle.table.specs.declared.Section.{Section}
 use Rattle.table.specs.declared.Range.{Range}
 use Rattle.model.specs.Sections.{entries}
 use Rattle.model.specs.Decode.{rows_in}
-use Rattle.sections.specs.declared.Found.{Found}
-use Rattle.sections.specs.declared.Found.TheVariants.{Clear, At}
+use Rattle.std.specs.declared.option.Option.{Option}
+use Rattle.std.specs.declared.option.Option.TheVariants.{Some, None}
+use Rattle.sections.specs.declared.Fault.{Fault}
 use Rattle.sections.specs.Found.{earlier_of}
 use Rattle.sections.specs.Placed.{misplaced}
 use Rattle.sections.proofs.Steps.{earlier_none}
@@ -98,10 +98,7 @@ searched_fit w (Listed p) = go (misplaced 0 w entries) refl where
   go false e = let k = section_lies w entries e refl in range_fits w (record { from = word w p; to = min (word w p + word w (p + 1)) (count_of w entries) }) (omega arith) (omega arith)
 
 -- the next row begins after this one
-pub row_first : (at size : ℕ) → at ≡ at + size * 0
-row_first at size = rw (mul-zero, add-zero) refl
-
-pub row_next : (at size i : ℕ) {q : ℕ} → q ≡ at + size * i → q + size ≡ at + size * (i + 1)
+row_next : (at size i : ℕ) {q : ℕ} → q ≡ at + size * i → q + size ≡ at + size * (i + 1)
 row_next at size i e = rw (add-one, mul-suc) (omega arith)
 
 -- a row below the count ends no later than the last
@@ -111,14 +108,6 @@ row_fits at size i count len l h = omega (arith, row_next at size i refl, mul-le
 pub fits_as : (w : List ℕ) (x : Block) {r : Rows} → r ≡ searched w x → row_at r r.count ≤ length w
 fits_as w x e = rw e (searched_fit w x)
 
--- ---- a loop over rows: row i, which begins at q, is asked by p
-module _ (p : ℕ → Bool) (at size i count : ℕ) {q : ℕ} {whole : ℕ} {r : Bool} (l : i < count) (e : q ≡ at + size * i) (t : r ≡ p q) where
-  pub row_here : r ≡ true → whole ≡ least (λ k. p (at + size * k)) i count → i ≡ whole
-  row_here y h = least_here (λ k. p (at + size * k)) i count l (t ∙ ap p e) y h
-
-  pub row_later : r ≡ false → whole ≡ least (λ k. p (at + size * k)) i count → whole ≡ least (λ k. p (at + size * k)) (i + 1) count
-  row_later y h = least_next (λ k. p (at + size * k)) i count l (t ∙ ap p e) y h
-
 -- the first wrong row, by the line's test
 pub row_by_test : (w b : List ℕ) (l : Line) (r : Rows) {i : ℕ} (t : Test) → l.test ≡ t → i ≡ least (λ k. wrong t w b (row_at r k) l.word) 0 r.count → i ≡ first_row w b l r
 unfolding first_row
@@ -126,20 +115,21 @@ row_by_test w b l r t e h = h ∙ rw (← e) refl
 
 -- a line whose number can't win any more
 module _ (w b : List ℕ) (l : Line) where
-  late : (m q p : ℕ) (t : Bool) → m < l.number → At m q ≡ earlier_of (At m q) (pick t (At l.number p) Clear)
-  late m q p true h = rw (le-ltb l.number m (omega arith), ne_eqb l.number m (λ e. omega arith)) refl
-  late m q p false h = refl
+  late : (f g : Fault) (t : Bool) → f.number < g.number → Some f ≡ earlier_of (Some f) (pick t (Some g) None)
+  late f g true h = rw (le-ltb g.number f.number (omega arith), ne_eqb g.number f.number (λ e. omega arith)) refl
+  late f g false h = refl
 
-  pub line_late : (f : Found) → settled f l.number ≡ true → f ≡ earlier_of f (found_in w b l)
+  pub line_late : (f : Option Fault) → settled f l.number ≡ true → f ≡ earlier_of f (found_in w b l)
   unfolding found_in found_at
-  line_late Clear h = absurd (true≢false (sym h))
-  line_late (At m q) h =
+  line_late None h = absurd (true≢false (sym h))
+  line_late (Some f) h =
       let r = searched w l.block in
-      late m q (row_at r (first_row w b l r) + l.word) (ltb (first_row w b l r) r.count) (ltb-true m l.number h)
+      let i = first_row w b l r in
+      late f (record { number = l.number; word = row_at r i + l.word }) (ltb i r.count) (ltb-true f.number l.number h)
 
 -- ---- a line
-module _ (w b : List ℕ) (l : Line) (f : Found) {r : Rows} (e : r ≡ searched w l.block) {i : ℕ} (t : i ≡ first_row w b l r) where
-  pub line_found : {g : Found} → i < r.count → g ≡ earlier_of f (At l.number (row_at r i + l.word)) → g ≡ earlier_of f (found_in w b l)
+module _ (w b : List ℕ) (l : Line) (f : Option Fault) {r : Rows} (e : r ≡ searched w l.block) {i : ℕ} (t : i ≡ first_row w b l r) where
+  pub line_found : {g : Option Fault} → i < r.count → g ≡ earlier_of f (Some (record { number = l.number; word = row_at r i + l.word })) → g ≡ earlier_of f (found_in w b l)
   unfolding found_in found_at
   line_found h k = k ∙ rw (← e, ← t, lt-ltb i r.count h) refl
 

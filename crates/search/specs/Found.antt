@@ -1,9 +1,8 @@
 -- The first fault of a line. That a check made of lines names the first of all faults is proved in `sound`. Assumes nothing.
-use Rattle.std.specs.Prelude.{ℕ, ◌+◌, List, Bool, true, false, not, ltb}
+use Rattle.std.specs.Prelude.{Option, Some, None, ℕ, ◌+◌, List, Bool, true, false, not, ltb}
 use Rattle.laws.specs.Lists.{least, pick}
 use Rattle.model.specs.Sections.{entries}
-use Rattle.sections.specs.declared.Found.{Found}
-use Rattle.sections.specs.declared.Found.TheVariants.{Clear, At}
+use Rattle.sections.specs.declared.Fault.{Fault}
 use Rattle.sections.specs.Placed.{misplaced}
 use Rattle.search.specs.declared.Block.{Block}
 use Rattle.search.specs.declared.Block.TheVariants.{Header, All, Listed}
@@ -13,9 +12,9 @@ use Rattle.search.specs.Rows.{no_rows, rows_of, row_at}
 use Rattle.row_tests.specs.Wrong.{wrong}
 
 -- a fault was found that goes before every fault of refusal n
-abbrev pub settled : Found → ℕ → Bool
-settled Clear n = false
-settled (At m q) n = ltb m n
+abbrev pub settled : Option Fault → ℕ → Bool
+settled None n = false
+settled (Some f) n = ltb f.number n
 
 -- the section of a line's rows lies in the words
 unfoldable pub in_words : List ℕ → Block → Bool
@@ -32,9 +31,9 @@ unfoldable pub first_row : List ℕ → List ℕ → Line → Rows → ℕ
 first_row w b l r = least (λ i. wrong l.test w b (row_at r i) l.word) 0 r.count
 
 -- where a line's first fault is, if its first wrong row is i
-unfoldable pub found_at : Line → Rows → ℕ → Found
-found_at l r i = pick (ltb i r.count) (At l.number (row_at r i + l.word)) Clear
+unfoldable pub found_at : Line → Rows → ℕ → Option Fault
+found_at l r i = pick (ltb i r.count) (Some (record { number = l.number; word = row_at r i + l.word })) None
 
 -- a line's first fault in the rows that are searched
-unfoldable pub found_in : List ℕ → List ℕ → Line → Found
+unfoldable pub found_in : List ℕ → List ℕ → Line → Option Fault
 found_in w b l = found_at l (searched w l.block) (first_row w b l (searched w l.block))

@@ -1,18 +1,16 @@
 // The search for the first fault of a line. The public function asks nothing of its caller.
 #![tactic(auto)]
 
-ghost use Rattle.std.specs.Prelude.{◌≡◌, ◌+◌, ◌≤◌, length};
+ghost use Rattle.std.specs.Prelude.{◌≡◌, ℕ, Bool, ◌<◌, ◌≤◌, length};
 ghost use Rattle.laws.specs.Lists.{least};
-ghost use Rattle.table.specs.Table.{word as word_of};
 ghost use Rattle.sections.specs.Found.{earlier_of};
-ghost use Rattle.row_tests.specs.Wrong.{no_string, no_range, high_string, string_out, wrong};
 ghost use Rattle.search.specs.Found.{settled, searched, first_row, found_in};
 ghost use Rattle.search.specs.Rows.{row_at};
 
 use model::policy::ENTRIES;
 use row_tests::Test;
-use sections::{Found, earlier, is_misplaced};
-use table::{Section, word};
+use sections::{Fault, earlier, is_misplaced};
+use table::{Lent, Section, word};
 
 // The rows that a line speaks of: the header, those of a section, or those of L in the range at a word of the header.
 #[derive(Clone, Copy)]
@@ -95,136 +93,57 @@ fn rows_of(words: &[u64], block: Block) -> Rows
     }
 }
 
-// The first row that fails a test, or their number. The tests of most rows have loops of their own: there nothing is chosen anew in each row.
-fn first_no_string(words: &[u64], r: Rows, j: u8) -> usize
-    requires { row_at r r.count ≤ length words.now }
-    ensures { result ≡ least (λ k. no_string words.now (row_at r k + j)) 0 r.count }
+// The first of some rows that fails a test, asked of the word at which a row begins, or their number. Each test has a loop of its own, so that nothing is chosen anew in each row.
+fn first_that<F: Fn(usize) -> bool>(r: Rows, fails: F) -> usize
+    requires fits { row_at r r.count < 18446744073709551616 }
+    requires asked { (k : ℕ) → k < r.count → F.pre fails (row_at r k) }
+    ensures { (p : ℕ → Bool) → ((q : ℕ) (b : Bool) → F.post fails q b → b ≡ p q) → result ≡ least (λ k. p (row_at r k)) 0 r.count }
 {
-    let size = r.size;
-    let count = r.count;
-    let mut q = r.at;
-    let mut i = 0;
-    while i < count {
-        if row_tests::no_string(words, q + j as usize) {
-            return i;
-        }
-        q += size;
-        i += 1;
-    }
-    i
-}
-
-fn first_string_out(words: &[u64], bytes: &[u8], r: Rows, j: u8) -> usize
-    requires { row_at r r.count ≤ length words.now }
-    ensures { result ≡ least (λ k. string_out words.now bytes.now (row_at r k + j)) 0 r.count }
-{
-    let size = r.size;
-    let count = r.count;
-    let mut q = r.at;
-    let mut i = 0;
-    while i < count {
-        if row_tests::string_out(words, bytes, q + j as usize) {
-            return i;
-        }
-        q += size;
-        i += 1;
-    }
-    i
-}
-
-fn first_no_range(words: &[u64], s: Section, r: Rows, j: u8) -> usize
-    requires { row_at r r.count ≤ length words.now }
-    ensures { result ≡ least (λ k. no_range words.now s (row_at r k + j)) 0 r.count }
-{
-    let size = r.size;
-    let count = r.count;
-    let mut q = r.at;
-    let mut i = 0;
-    while i < count {
-        if row_tests::no_range(words, s, q + j as usize) {
-            return i;
-        }
-        q += size;
-        i += 1;
-    }
-    i
-}
-
-fn first_high(words: &[u64], bytes: &[u8], r: Rows, j: u8) -> usize
-    requires { row_at r r.count ≤ length words.now }
-    ensures { result ≡ least (λ k. high_string words.now bytes.now (word_of words.now (row_at r k + j))) 0 r.count }
-{
-    let size = r.size;
-    let count = r.count;
-    let mut q = r.at;
-    let mut i = 0;
-    while i < count {
-        if row_tests::number_high(words, bytes, q + j as usize) {
-            return i;
-        }
-        q += size;
-        i += 1;
-    }
-    i
-}
-
-fn first_wrong(words: &[u64], bytes: &[u8], t: Test, r: Rows, j: u8) -> usize
-    requires { row_at r r.count ≤ length words.now }
-    ensures { result ≡ least (λ k. wrong t words.now bytes.now (row_at r k) j) 0 r.count }
-{
-    let size = r.size;
-    let count = r.count;
-    let mut q = r.at;
-    let mut i = 0;
-    while i < count {
-        if row_tests::is_wrong(words, bytes, t, q, j) {
-            return i;
-        }
-        q += size;
-        i += 1;
-    }
-    i
+    (0..r.count)
+        .position(|i| fails(r.at + r.size * i))
+        .unwrap_or(r.count)
 }
 
 // The first wrong row of a line, or their number.
-fn first_row(words: &[u64], bytes: &[u8], l: Line, r: Rows) -> usize
-    requires { row_at r r.count ≤ length words.now }
-    ensures { result ≡ first_row words.now bytes.now l r }
+fn first_row(lent: Lent, l: Line, r: Rows) -> usize
+    requires { row_at r r.count ≤ length lent.words.now }
+    ensures { result ≡ first_row lent.entry.words.now lent.entry.bytes.now l r }
 {
-    let test = l.test;
-    let j = l.word;
-    match test {
-        Test::StringOut => first_string_out(words, bytes, r, j),
-        Test::NumberOut => first_no_string(words, r, j),
-        Test::RangeOut(s) => first_no_range(words, s, r, j),
-        Test::NumberHigh => first_high(words, bytes, r, j),
-        _ => first_wrong(words, bytes, test, r, j),
+    let j = l.word as usize;
+    match l.test {
+        Test::StringOut => first_that(r, |q| row_tests::string_out(lent, q + j)),
+        Test::NumberOut => first_that(r, |q| row_tests::no_string(lent.words, q + j)),
+        Test::RangeOut(s) => first_that(r, |q| row_tests::no_range(lent.words, s, q + j)),
+        Test::NumberHigh => first_that(r, |q| row_tests::number_high(lent, q + j)),
+        test => first_that(r, |q| row_tests::is_wrong(lent, test, q, l.word)),
     }
 }
 
 // Whether a fault was found that goes before every fault of refusal n.
-fn is_settled(f: Found, n: u64) -> bool
+fn is_settled(f: Option<Fault>, n: u64) -> bool
     ensures { result ≡ settled f n }
 {
-    match f {
-        Found::Clear => false,
-        Found::At(m, _) => m < n,
-    }
+    f.is_some_and(|g| g.number < n)
 }
 
 // The first of f and of the faults of a line. Where the rows' section does not lie in the words none is looked for.
-pub fn with_line(words: &[u64], bytes: &[u8], f: Found, l: Line) -> Found
-    ensures { result ≡ earlier_of f (found_in words.now bytes.now l) }
+pub fn with_line(lent: Lent, f: Option<Fault>, l: Line) -> Option<Fault>
+    ensures { result ≡ earlier_of f (found_in lent.entry.words.now lent.entry.bytes.now l) }
 {
     if is_settled(f, l.number) {
         return f;
     }
-    let block = l.block;
-    let r = rows_of(words, block);
-    let i = first_row(words, bytes, l, r);
+    let r = rows_of(lent.words, l.block);
+    let i = first_row(lent, l, r);
     if i < r.count {
-        let q = r.at + r.size * i;
-        return earlier(f, l.number, q + l.word as usize);
+        let word = r.at + r.size * i + l.word as usize;
+        return earlier(
+            f,
+            Fault {
+                number: l.number,
+                word,
+            },
+        );
     }
     f
 }

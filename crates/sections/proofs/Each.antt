@@ -1,23 +1,24 @@
 -- One thing after the other is looked at. Assumes nothing.
 use mathlib.Core.Path.{◌≡◌, refl, sym, ap, ◌∙◌}
 use mathlib.Core.List.{List, [], ◌∷◌, ◌++◌}
-use Rattle.sections.specs.declared.Found.{Found}
+use Rattle.std.specs.declared.option.Option.{Option}
+use Rattle.sections.specs.declared.Fault.{Fault}
 use Rattle.sections.specs.Found.{earlier_of, found_each}
 
-module _ {A : Type 0} (found : A → Found) where
-  pub each_more : (x : A) (xs : List A) (f : Found) {g r : Found} → g ≡ earlier_of f (found x) → r ≡ found_each found g xs → r ≡ found_each found f (x ∷ xs)
+module _ {A : Type 0} (found : A → Option Fault) where
+  pub each_more : (x : A) (xs : List A) (f : Option Fault) {g r : Option Fault} → g ≡ earlier_of f (found x) → r ≡ found_each found g xs → r ≡ found_each found f (x ∷ xs)
   unfolding found_each
-  each_more x xs f e t = t ∙ ap (λ (h : Found). found_each found h xs) e
+  each_more x xs f e t = t ∙ ap (λ (h : Option Fault). found_each found h xs) e
 
-  pub each_done : {r : Found} → r ≡ found_each found r []
+  pub each_done : {r : Option Fault} → r ≡ found_each found r []
   unfolding found_each
   each_done = refl
 
   -- first some, then the others
-  each_both : (xs ys : List A) (f : Found) → found_each found f (xs ++ ys) ≡ found_each found (found_each found f xs) ys
+  each_both : (xs ys : List A) (f : Option Fault) → found_each found f (xs ++ ys) ≡ found_each found (found_each found f xs) ys
   unfolding found_each
   each_both [] ys f = refl
   each_both (x ∷ xs) ys f = each_both xs ys (earlier_of f (found x))
 
-  pub each_then : (xs ys : List A) (f : Found) {g r : Found} → g ≡ found_each found f xs → r ≡ found_each found g ys → r ≡ found_each found f (xs ++ ys)
-  each_then xs ys f e t = t ∙ ap (λ (h : Found). found_each found h ys) e ∙ sym (each_both xs ys f)
+  pub each_then : (xs ys : List A) (f : Option Fault) {g r : Option Fault} → g ≡ found_each found f xs → r ≡ found_each found g ys → r ≡ found_each found f (xs ++ ys)
+  each_then xs ys f e t = t ∙ ap (λ (h : Option Fault). found_each found h ys) e ∙ sym (each_both xs ys f)

@@ -5,33 +5,23 @@ use native.Mathlib.Decide.{dec_lt}
 use native.Mathlib.Nat.{zero-mul, add-zero}
 use mathlib.Core.Path.{◌≡◌, refl, sym, ◌∙◌}
 use mathlib.Core.List.{List}
-use mathlib.Core.Bool.{Bool, true, false, ◌&&◌, ◌||◌}
-use lib.Dec.{eqb, ltb}
+use mathlib.Core.Bool.{Bool, true, false}
+use lib.Dec.{ltb}
 use lib.ListN.{length}
 use borrow.Author.Tests.{lt-ltb, le-ltb}
 use Rattle.table.specs.Table.{count_of, offset_of}
 use Rattle.table.specs.declared.Section.{Section}
 use Rattle.table.proofs.Laws.{ends_past, ends_inside}
-use Rattle.sections.specs.declared.Found.{Found}
-use Rattle.sections.specs.declared.Found.TheVariants.{Clear, At}
+use Rattle.std.specs.declared.option.Option.{Option}
+use Rattle.std.specs.declared.option.Option.TheVariants.{Some, None}
+use Rattle.sections.specs.declared.Fault.{Fault}
 use Rattle.sections.specs.Found.{earlier_of}
 use Rattle.sections.specs.Placed.{misplaced, found_section}
 
 -- ---- the earlier of two faults
-pub earlier_none : (f : Found) → f ≡ earlier_of f Clear
-earlier_none Clear = refl
-earlier_none (At n p) = refl
-
-module _ (f : Found) (n p : ℕ) where
-  pub earlier_clear : f ≡ Clear → At n p ≡ earlier_of f (At n p)
-  earlier_clear e = rw e refl
-
-  module _ (m q : ℕ) (e : f ≡ At m q) {r : Bool} (t : r ≡ (ltb n m || (eqb n m && ltb p q))) where
-    pub earlier_yes : r ≡ true → At n p ≡ earlier_of f (At n p)
-    earlier_yes y = rw (e, ← t, y) refl
-
-    pub earlier_no : r ≡ false → At m q ≡ earlier_of f (At n p)
-    earlier_no y = rw (e, ← t, y) refl
+pub earlier_none : (f : Option Fault) → f ≡ earlier_of f None
+earlier_none None = refl
+earlier_none (Some f) = refl
 
 -- ---- a section
 module _ (header : ℕ) (w : List ℕ) (s : Section) {at : ℕ} (e : at ≡ offset_of w s) where
@@ -56,8 +46,8 @@ module _ (header : ℕ) (w : List ℕ) (s : Section) {at : ℕ} (e : at ≡ offs
         | no h ↦ le-ltb ((length w - at) / s.size) n (omega arith) ∙ sym (le-ltb (length w) (at + s.size * n) (ends_inside s.size at n (length w) z l (omega arith)))
       ])
 
-module _ (header : ℕ) (w : List ℕ) (s : Section) (f : Found) {m : Bool} (t : m ≡ misplaced header w s) where
-  pub section_bad : {r : Found} → m ≡ true → r ≡ earlier_of f (At 4 s.count) → r ≡ earlier_of f (found_section header w s)
+module _ (header : ℕ) (w : List ℕ) (s : Section) (f : Option Fault) {m : Bool} (t : m ≡ misplaced header w s) where
+  pub section_bad : {r : Option Fault} → m ≡ true → r ≡ earlier_of f (Some (record { number = 4; word = s.count })) → r ≡ earlier_of f (found_section header w s)
   unfolding found_section
   section_bad y h = h ∙ rw (← t, y) refl
 

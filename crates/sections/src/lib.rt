@@ -1,7 +1,7 @@
 // Where the sections of the two bundles may lie, and the first that lies elsewhere. The public functions ask nothing of their caller.
 #![tactic(auto)]
 
-ghost use Rattle.std.specs.Prelude.{◌≡◌, ◌&&◌, ◌||◌, eqb, ltb};
+ghost use Rattle.std.specs.Prelude.{◌≡◌, Some, None};
 ghost use Rattle.model.specs.Sections.{chain_header, policy_header};
 ghost use Rattle.sections.specs.Found.{earlier_of, found_each};
 ghost use Rattle.sections.specs.Placed.{misplaced, found_section, chain_sections, policy_sections};
@@ -16,33 +16,20 @@ pub const CHAIN_HEADER: usize = 16;
 // The words of a policy bundle's header.
 pub const POLICY_HEADER: usize = 23;
 
-// The first fault so far: a refusal's number and its word.
-#[derive(Clone, Copy)]
-pub enum Found {
-    Clear,
-    At(u64, usize),
+// Where a bundle is wrong: a refusal's number and a word. A number and no enum: document 01 and the C header name refusals so, and the lowest goes first, then the lowest word.
+#[derive(Clone, Copy, PartialEq, Eq, PartialOrd, Ord)]
+pub struct Fault {
+    pub number: u64,
+    pub word: usize,
 }
 
-// Whether refusal n at the word p goes before refusal m at the word q.
-fn goes_before(n: u64, p: usize, m: u64, q: usize) -> bool
-    ensures { result ≡ (ltb n m || (eqb n m && ltb p q)) }
-{
-    (n < m) | ((n == m) & (p < q))
-}
-
-// The first of what was found so far and refusal n at the word p.
-pub fn earlier(f: Found, n: u64, p: usize) -> Found
-    ensures { result ≡ earlier_of f (Found.At n p) }
+// The first of what was found so far and one more fault.
+pub fn earlier(f: Option<Fault>, g: Fault) -> Option<Fault>
+    ensures { result ≡ earlier_of f (Some g) }
 {
     match f {
-        Found::Clear => Found::At(n, p),
-        Found::At(m, q) => {
-            if goes_before(n, p, m, q) {
-                Found::At(n, p)
-            } else {
-                Found::At(m, q)
-            }
-        }
+        Some(h) if h <= g => f,
+        _ => Some(g),
     }
 }
 
@@ -66,21 +53,26 @@ pub fn is_misplaced(words: &[u64], header: usize, s: Section) -> bool
 }
 
 // The first of f and of a misplaced section.
-fn with_section(words: &[u64], header: usize, f: Found, s: Section) -> Found
+fn with_section(words: &[u64], header: usize, f: Option<Fault>, s: Section) -> Option<Fault>
     ensures { result ≡ earlier_of f (found_section header words.now s) }
 {
-    let place = s.count;
     if is_misplaced(words, header, s) {
-        return earlier(f, 4, place);
+        return earlier(
+            f,
+            Fault {
+                number: 4,
+                word: s.count,
+            },
+        );
     }
     f
 }
 
 // The first misplaced section of a chain bundle.
-pub fn chain_misplaced(words: &[u64]) -> Found
-    ensures { result ≡ found_each (found_section chain_header words.now) Found.Clear chain_sections }
+pub fn chain_misplaced(words: &[u64]) -> Option<Fault>
+    ensures { result ≡ found_each (found_section chain_header words.now) None chain_sections }
 {
-    let f = with_section(words, CHAIN_HEADER, Found::Clear, STRINGS);
+    let f = with_section(words, CHAIN_HEADER, None, STRINGS);
     let f = with_section(words, CHAIN_HEADER, f, ATTRIBUTES);
     let f = with_section(words, CHAIN_HEADER, f, RDNS);
     let f = with_section(words, CHAIN_HEADER, f, NAMES);
@@ -89,9 +81,9 @@ pub fn chain_misplaced(words: &[u64]) -> Found
 }
 
 // The same of a policy bundle.
-pub fn policy_misplaced(words: &[u64]) -> Found
-    ensures { result ≡ found_each (found_section policy_header words.now) Found.Clear policy_sections }
+pub fn policy_misplaced(words: &[u64]) -> Option<Fault>
+    ensures { result ≡ found_each (found_section policy_header words.now) None policy_sections }
 {
-    let f = with_section(words, POLICY_HEADER, Found::Clear, STRINGS);
+    let f = with_section(words, POLICY_HEADER, None, STRINGS);
     with_section(words, POLICY_HEADER, f, ENTRIES)
 }

@@ -2,9 +2,9 @@ use Rattle.row_tests.specs.Wrong.{string_out}
 use Rattle.row_tests.proofs.Reasons.{words_past}
 use Rattle.row_tests.proofs.string_out.Goals as goal
 
-pub returns-then-words-p : goal.returns-then-words-p
+pub returns-then-lent-p : goal.returns-then-lent-p
 unfolding string_out
-returns-then-words-p c = words_past _ _ _ c.if-words-p.true
+returns-then-lent-p c = words_past _ _ _ c.if-lent-p.true
 
 pub returns : goal.returns
 unfolding string_out
