@@ -9,24 +9,6 @@ from sheets import sheets
 
 ROWS = [
     {
-        "kind": "any",
-        "crate": "ascii",
-        "function": "has_class",
-        "slices": ["l.s"],
-        "test": "is_class",
-        "definition": "(λ x. eqb (class_of x) l.class)",
-        "uses": ["lib.Dec.{eqb}", "Rattle.ascii.specs.Bytes.{class_of}"],
-    },
-    {
-        "kind": "all",
-        "crate": "ascii",
-        "function": "all_host_bytes",
-        "slices": ["l.s"],
-        "test": "is_host_byte",
-        "definition": "is_host_byte",
-        "uses": ["Rattle.ascii.specs.Bytes.{is_host_byte}"],
-    },
-    {
         "kind": "each",
         "crate": "text",
         "function": "same_lowered",
