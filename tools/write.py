@@ -5,14 +5,13 @@ import sys
 
 import bundles
 import byte_table
-import loops
 import obeying
 import reports
 import row_loops
 import searches
 import stated
 
-MAKERS = [bundles, byte_table, loops, obeying, reports, row_loops, searches, stated]
+MAKERS = [bundles, byte_table, obeying, reports, row_loops, searches, stated]
 TOP = pathlib.Path(__file__).resolve().parent.parent
 
 
