@@ -17,7 +17,7 @@ module _ (range address : List ℕ) where
   each_byte n e f = rw (eq-eqb (length range) (n + n) e, eq-eqb (length address) n f) refl
 
   -- with other lengths nothing lies in the range
-  other_lengths : (n : ℕ) → (length range ≡ n + n → length address ≡ n → ⊥) → in_range n range address ≡ false
+  pub other_lengths : (n : ℕ) → (length range ≡ n + n → length address ≡ n → ⊥) → in_range n range address ≡ false
   unfolding in_range
   other_lengths n h = go (eqb (length range) (n + n)) refl (eqb (length address) n) refl where
     go : (s : Bool) → eqb (length range) (n + n) ≡ s → (t : Bool) → eqb (length address) n ≡ t → (s && t && all (agrees_at n range address) (numbers 0 n)) ≡ false
