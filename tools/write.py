@@ -6,13 +6,12 @@ import sys
 import bundles
 import byte_table
 import chains
-import loops
 import obeying
 import reports
 import searches
 import stated
 
-MAKERS = [bundles, byte_table, chains, loops, obeying, reports, searches, stated]
+MAKERS = [bundles, byte_table, chains, obeying, reports, searches, stated]
 TOP = pathlib.Path(__file__).resolve().parent.parent
 
 

@@ -1,3 +1,3 @@
-pub mod Blocks
+pub mod Chains
 pub mod Chars
 pub mod Theorems

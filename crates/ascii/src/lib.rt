@@ -3,8 +3,8 @@
 
 pub mod byte_table;
 
-ghost use Rattle.std.specs.Prelude.{◌≡◌, ◌+◌, ◌≤◌, eqb, length, get_or};
-ghost use Rattle.laws.specs.Lists.{numbers, any, all};
+ghost use Rattle.std.specs.Prelude.{◌≡◌, eqb};
+ghost use Rattle.laws.specs.Lists.{any, all};
 ghost use Rattle.ascii.specs.Bytes.{is_high, is_host_byte, lower_byte, class_of, whole_table};
 
 // The classes of bytes that somebody asks for.
@@ -20,25 +20,21 @@ pub const SPACE: u8 = 6;
 pub fn lower(x: u8) -> u8
     ensures { result ≡ lower_byte x }
 {
-    if (65 <= x) & (x <= 90) {
-        return x + 32;
-    }
-    x
+    x.to_ascii_lowercase()
+}
+
+// The class that a table holds for a byte.
+fn class_in(table: &[u16; 256], x: u8) -> u8
+    ensures { table.now ≡ whole_table → result ≡ class_of x }
+{
+    (byte_table::entry_in(table, x) / 256) as u8
 }
 
 // The class of a byte.
 pub fn class_of(x: u8) -> u8
     ensures { result ≡ class_of x }
 {
-    let table = byte_table::whole();
-    (byte_table::entry_in(&table, x) / 256) as u8
-}
-
-fn is_class(table: &[u16; 256], x: u8, class: u8) -> bool
-    requires { table.now ≡ whole_table }
-    ensures { result ≡ eqb (class_of x) class }
-{
-    byte_table::entry_in(table, x) / 256 == class as u16
+    class_in(&byte_table::whole(), x)
 }
 
 // Whether some byte of a text is of a class.
@@ -46,68 +42,14 @@ pub fn has_class(s: &[u8], class: u8) -> bool
     ensures { result ≡ any (λ x. eqb (class_of x) class) s.now }
 {
     let table = byte_table::whole();
-    let mut i = 0;
-    while i < s.len() {
-        if is_class(&table, s[i], class) {
-            return true;
-        }
-        i += 1;
-    }
-    false
+    s.iter().any(|x| class_in(&table, *x) == class)
 }
 
-// Whether one of the eight bytes from i on is no ASCII character.
-fn has_high_eight(s: &[u8], i: usize) -> bool
-    requires { i + 8 ≤ length s.now }
-    ensures { result ≡ any (λ k. is_high (get_or s.now k 0)) (numbers i (i + 8)) }
-{
-    (128 <= s[i])
-        | (128 <= s[i + 1])
-        | (128 <= s[i + 2])
-        | (128 <= s[i + 3])
-        | (128 <= s[i + 4])
-        | (128 <= s[i + 5])
-        | (128 <= s[i + 6])
-        | (128 <= s[i + 7])
-}
-
-// Whether one of a few bytes is no ASCII character.
-fn has_high_few(s: &[u8]) -> bool
-    ensures { result ≡ any is_high s.now }
-{
-    let mut high = false;
-    let mut i = 0;
-    while i < s.len() {
-        high = high | (128 <= s[i]);
-        i += 1;
-    }
-    high
-}
-
-// Whether some byte is no ASCII character. Most texts are short, so that they are looked at by eight bytes; the last eight may meet those before them.
+// Whether some byte is no ASCII character. The chain has no way out, so that it is compiled to look at many bytes at once.
 pub fn has_high(s: &[u8]) -> bool
     ensures { result ≡ any is_high s.now }
 {
-    if s.len() < 8 {
-        return has_high_few(s);
-    }
-    let last = s.len() - 8;
-    let mut i = 0;
-    while i < last {
-        if has_high_eight(s, i) {
-            return true;
-        }
-        i += 8;
-    }
-    has_high_eight(s, last)
-}
-
-fn is_host_byte(table: &[u16; 256], x: u8) -> bool
-    requires { table.now ≡ whole_table }
-    ensures { result ≡ is_host_byte x }
-{
-    let class = byte_table::entry_in(table, x) / 256;
-    (LETTER as u16 <= class) & (class <= DOT as u16)
+    s.iter().fold(false, |high, x| high | !x.is_ascii())
 }
 
 // Whether each byte is one of those that a host name is made of.
@@ -115,13 +57,6 @@ pub fn all_host_bytes(s: &[u8]) -> bool
     ensures { result ≡ all is_host_byte s.now }
 {
     let table = byte_table::whole();
-    let mut i = 0;
-    while i < s.len() {
-        if is_host_byte(&table, s[i]) {
-            i += 1;
-        } else {
-            return false;
-        }
-    }
-    true
+    s.iter()
+        .all(|x| (LETTER..=DOT).contains(&class_in(&table, *x)))
 }

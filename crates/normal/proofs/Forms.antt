@@ -1,25 +1,27 @@
 -- The walk through a normal form is the normal form, and its steps. Assumes nothing.
-use Prim.Native.Nat.{ℕ, zero, suc, ◌+◌, ◌-◌, ◌≤◌, ◌<◌}
+use Prim.Native.Nat.{ℕ, suc, ◌+◌, ◌-◌, ◌≤◌, ◌<◌}
 use native.Mathlib.Omega.{arith}
 use native.Mathlib.Decide.{dec_lt}
-use native.Mathlib.Nat.{add-zero}
-use native.Mathlib.Numerals.{add-one}
 use mathlib.Core.Path.{◌≡◌, refl, sym, ap, ◌∙◌}
 use mathlib.Core.List.{[], ◌∷◌, map}
-use mathlib.Core.Bool.{Bool, true, false, ◌&&◌, true≢false}
-use lib.Dec.{leb}
-use lib.ListN.{length, get_or, drop, drop_of_length-le}
-use lib.Seq.{drop-cons}
-use borrow.Author.Tests.{eq-eqb, ne_eqb, eqb-true, not-true, not-false, le-leb, lt-leb}
-use Rattle.laws.specs.Lists.{pick, all, each, eq_list, least, Least}
+use mathlib.Core.Bool.{Bool, true, false, not, ◌&&◌, cond, true≢false}
+use lib.Dec.{ltb, eqb}
+use lib.ListN.{length, take, drop, drop_of_length-le}
+use borrow.Author.Tests.{eq-eqb, ne_eqb, eqb-true, lt-ltb, le-ltb}
+use Rattle.std.specs.declared.option.Option.{Option}
+use Rattle.std.specs.declared.option.Option.TheVariants.{Some, None}
+use Rattle.std.specs.Option.{unwrap_or, is_some}
+use Rattle.std.specs.List.{position_or_len, IsFirstAndRest}
+use Rattle.laws.specs.Lists.{pick, all, each, eq_list}
 use Rattle.laws.proofs.Tests.{and_left, and_right}
-use Rattle.laws.proofs.Meaning.{least_is}
+use Rattle.laws.proofs.Parts.{rest}
 use Rattle.laws.proofs.Equal.{equal_list, list_equal}
-use Rattle.ascii.specs.Bytes.{is_space, lower_byte, class_of, space}
-use Rattle.ascii.proofs.Chars.{lower_space, class_space}
+use Rattle.ascii.specs.Bytes.{is_space, lower_byte}
+use Rattle.ascii.proofs.Chars.{lower_space}
 use Rattle.text.specs.Texts.{Text, lowered}
 use Rattle.normal.specs.Normal.{drop_front, drop_back, space_first, one_space, normalize_string, same_normal}
-use Rattle.normal.specs.Walk.{form, stepped, no_space_at, Advanced}
+use Rattle.normal.specs.Walk.{form, Advanced}
+use Rattle.normal.specs.declared.Step.{Step}
 
 -- ---- the walk is the normal form
 -- the walk, over a text that is lowered already
@@ -91,119 +93,104 @@ form_owe (x ∷ s) = go (is_space x) (form_owe s) where
   go true h = h
   go false h = refl
 
-module _ (s : Text) (i : ℕ) where
-  at_end : length s ≤ i → form false (drop i s) ≡ []
-  unfolding form
-  at_end h = rw (drop_of_length-le s h) refl
+owed_none : (s : Text) → length s ≡ 0 → owe s ≡ []
+unfolding owe
+owed_none [] h = refl
+owed_none (x ∷ s) h = absurd (omega arith)
 
-  at_byte : i < length s → is_space (get_or s i 0) ≡ false → form false (drop i s) ≡ lower_byte (get_or s i 0) ∷ form false (drop (i + 1) s)
-  unfolding form
-  at_byte h e = rw (add-one, drop-cons s i 0 h, e) refl
+-- a space owed before a text that begins with none
+owed_space : (s : Text) → (length (drop_front s) ≡ 0 → ⊥) → owe (drop_front s) ≡ 32 ∷ form false (drop_front s)
+unfolding drop_front form owe
+owed_space [] n = absurd (n refl)
+owed_space (x ∷ s) n = go (is_space x) refl n (owed_space s) where
+  go : (t : Bool) → is_space x ≡ t → (length (pick t (drop_front s) (x ∷ s)) ≡ 0 → ⊥) → ((length (drop_front s) ≡ 0 → ⊥) → owe (drop_front s) ≡ 32 ∷ form false (drop_front s)) → owe (pick t (drop_front s) (x ∷ s)) ≡ 32 ∷ form false (pick t (drop_front s) (x ∷ s))
+  go true e n h = h n
+  go false e n h = rw e refl
 
-  at_space : i < length s → is_space (get_or s i 0) ≡ true → form false (drop i s) ≡ owe (drop_front (drop i s))
-  unfolding form drop_front
-  at_space h e = rw (drop-cons s i 0 h, e) (form_owe (drop (suc i) s))
-
-  front_space : i < length s → is_space (get_or s i 0) ≡ true → drop_front (drop i s) ≡ drop_front (drop (i + 1) s)
-  unfolding drop_front
-  front_space h e = rw (add-one, drop-cons s i 0 h, e) refl
-
-  front_byte : i < length s → is_space (get_or s i 0) ≡ false → drop_front (drop i s) ≡ drop i s
-  unfolding drop_front
-  front_byte h e = rw (drop-cons s i 0 h, e) refl
-
-  front_end : length s ≤ i → drop_front (drop i s) ≡ drop i s
-  unfolding drop_front
-  front_end h = rw (drop_of_length-le s h) refl
+front_length : (s : Text) → length (drop_front s) ≤ length s
+unfolding drop_front
+front_length [] = omega arith
+front_length (x ∷ s) = go (is_space x) (front_length s) where
+  go : (t : Bool) → length (drop_front s) ≤ length s → length (pick t (drop_front s) (x ∷ s)) ≤ length (x ∷ s)
+  go true h = omega arith
+  go false h = omega arith
 
 -- ---- past the spaces
-skipped : (s : Text) (i n : ℕ) → i + n ≤ length s → ((k : ℕ) → i ≤ k → k < i + n → is_space (get_or s k 0) ≡ true) → drop_front (drop i s) ≡ drop_front (drop (i + n) s)
-skipped s i zero h e = rw add-zero refl
-skipped s i (suc n) h e = front_space s i (omega arith) (e i (omega arith) (omega arith)) ∙ skipped s (i + 1) n (omega arith) (λ k l m. e k (omega arith) (omega arith)) ∙ (let q : i + 1 + n ≡ i + suc n = omega arith in rw q refl)
+-- where the first byte stands that is no space
+abbrev pub first_byte : Text → ℕ
+first_byte = position_or_len (λ x. not (is_space x))
 
--- k is the first place from i on without a space, or the end
-record PastSpaces (s : Text) (i k : ℕ) : Type 0 where
-  from : i ≤ k
-  within : k ≤ length s
-  spaces : drop_front (drop i s) ≡ drop k s
-  stops : k < length s → is_space (get_or s k 0) ≡ false
+from_first : (s : Text) → drop (first_byte s) s ≡ drop_front s
+unfolding drop_front
+from_first [] = refl
+from_first (x ∷ s) = go (is_space x) (from_first s) where
+  go : (t : Bool) → drop (first_byte s) s ≡ drop_front s → drop (cond (not (not t)) (1 + first_byte s) 0) (x ∷ s) ≡ pick t (drop_front s) (x ∷ s)
+  go true h = let q : 1 + first_byte s ≡ suc (first_byte s) = omega arith in rw q h
+  go false h = refl
 
-past : (s : Text) (i k : ℕ) → i ≤ length s → k ≡ least (no_space_at s) i (length s) → PastSpaces s i k
-unfolding no_space_at
-past s i k h e =
-    let m : Least (no_space_at s) i (length s) k = rw e (least_is (no_space_at s) i (length s) h) in
-    let q : i + (k - i) ≡ k = omega (arith, m.low) in
-    let gone : drop_front (drop i s) ≡ drop_front (drop k s) = rw q at (skipped s i (k - i) (omega (arith, m.low, m.high)) (λ n l t. not-false _ (m.before n l (omega (arith, m.low))))) in
-    record { from = m.low; within = m.high; spaces = gone ∙ ended m; stops = λ l. not-true _ (m.passes l) }
-  where
-    ended : Least (no_space_at s) i (length s) k → drop_front (drop k s) ≡ drop k s
-    ended m = elim (dec_lt k (length s)) [ yes l ↦ front_byte s k l (not-true _ (m.passes l)) | no n ↦ front_end s k (omega arith) ]
+-- k is where the search for a byte that is no space ended
+pub past_front : (s : Text) (k : ℕ) {r : Option ℕ} → k ≡ unwrap_or r (length s) → r ≡ cond (ltb (first_byte s) (length s)) (Some (first_byte s)) None → take (length s - k) (drop k s) ≡ drop_front s
+past_front s k e t = rest k s ∙ elim (dec_lt (first_byte s) (length s)) [
+  | yes l ↦ rw (e, t, lt-ltb (first_byte s) (length s) l) (from_first s)
+  | no n ↦ rw (e, t, le-ltb (first_byte s) (length s) (omega arith), drop_of_length-le s {i = length s} (omega arith), ← drop_of_length-le s {i = first_byte s} (omega arith)) (from_first s)
+]
 
-pub space_is : {k : ℕ} (x : ℕ) → k ≡ class_of x → k ≡ space → is_space x ≡ true
-space_is x e h = sym (class_space x) ∙ eq-eqb _ _ (sym e ∙ h)
+-- ---- one step
+pub step_end : (s : Text) → length s ≡ 0 → form false s ≡ []
+unfolding form
+step_end [] h = refl
+step_end (x ∷ s) h = absurd (omega arith)
 
--- ---- one step from i on
-pub step_end : (s : Text) (i : ℕ) → i ≤ length s → length s ≤ i → Advanced s i (record { end = true; byte = 0; at = i })
-unfolding stepped
-step_end s i w h = record { gives = at_end s i h; within = w; further = λ e. absurd (true≢false e) }
+module _ {x : ℕ} {s after : Text} (e : IsFirstAndRest s x after) where
+  pub step_byte : {b : ℕ} → (x ≡ 32 → ⊥) → b ≡ lower_byte x → (form false s ≡ b ∷ form false after) × (length after < length s)
+  unfolding form
+  step_byte n f = (rw (e.0, ne_eqb x 32 n, f) refl, omega (arith, e.1))
 
-module _ (s : Text) (i : ℕ) (h : i < length s) where
-  pub step_byte : {b k : ℕ} → k ≡ class_of (get_or s i 0) → (k ≡ space → ⊥) → b ≡ lower_byte (get_or s i 0) → Advanced s i (record { end = false; byte = b; at = i + 1 })
-  unfolding stepped
-  step_byte e n f = record { gives = rw f (at_byte s i h (sym (class_space (get_or s i 0)) ∙ rw (← e) (ne_eqb _ _ n))); within = omega arith; further = λ z. omega arith }
+  module _ (h : x ≡ 32) {r : Text} (p : r ≡ drop_front after) where
+    spaced : form false s ≡ owe r
+    unfolding form
+    spaced = rw (e.0, eq-eqb x 32 h, p) (form_owe after)
 
-  -- k is past the spaces that begin at i
-  module _ (k : ℕ) (e : is_space (get_or s i 0) ≡ true) (z : k ≡ least (no_space_at s) i (length s)) where
-    p : PastSpaces s i k
-    p = past s i k (omega arith) z
+    -- t is whether nothing is left past the spaces
+    module _ {t : Bool} (f : t ≡ eqb (length r) 0) where
+      pub step_last : t ≡ true → form false s ≡ []
+      step_last y = spaced ∙ owed_none r (eqb-true _ _ (sym f ∙ y))
 
-    space_more : k < length s → form false (drop i s) ≡ 32 ∷ form false (drop k s)
-    unfolding owe
-    space_more l = at_space s i h e ∙ rw (p.spaces, at_byte s k l (p.stops l), add-one, drop-cons s k 0 l) refl
-
-    space_end : length s ≤ k → form false (drop i s) ≡ []
-    unfolding owe
-    space_end l = at_space s i h e ∙ rw (p.spaces, drop_of_length-le s l) refl
-
-    later : k < length s → i < k
-    later l = elim (dec_lt i k) [ yes m ↦ m | no m ↦ let q : i ≡ k = omega (arith, p.from) in absurd (true≢false (sym e ∙ rw q (p.stops l))) ]
-
-    pub step_space : Advanced s i (record { end = leb (length s) k; byte = 32; at = k })
-    unfolding stepped
-    step_space = elim (dec_lt k (length s)) [
-      | yes l ↦ record { gives = rw (lt-leb (length s) k l) (space_more l); within = p.within; further = λ z. later l }
-      | no n ↦ let l : length s ≤ k = omega arith in record { gives = rw (le-leb (length s) k l) (space_end l); within = p.within; further = λ z. absurd (true≢false (sym (le-leb (length s) k l) ∙ z)) }
-    ]
+      pub step_space : t ≡ false → (form false s ≡ 32 ∷ form false r) × (length r < length s)
+      step_space y =
+          let g : length (drop_front after) ≡ 0 → ⊥ = λ n. true≢false (sym (f ∙ eq-eqb (length r) 0 (rw p n)) ∙ y) in
+          (spaced ∙ rw p (owed_space after g), rw p (omega (arith, e.1, front_length after)))
 
 -- ---- two normal forms in step
 module _ (a b : Text) where
-  pub same_start : (i j : ℕ) → i ≡ least (no_space_at a) 0 (length a) → j ≡ least (no_space_at b) 0 (length b) → (i ≤ length a) × (j ≤ length b) × (same_normal a b ≡ eq_list (form false (drop i a)) (form false (drop j b)))
+  pub same_start : {p q : Text} → p ≡ drop_front a → q ≡ drop_front b → same_normal a b ≡ eq_list (form false p) (form false q)
   unfolding same_normal
-  same_start i j e f =
-      let p : PastSpaces a 0 i = past a 0 i (omega arith) e in
-      let q : PastSpaces b 0 j = past b 0 j (omega arith) f in
-      (p.within, q.within, rw (walked a, walked b, p.spaces, q.spaces) refl)
+  same_start e f = rw (walked a, walked b, e, f) refl
 
   pub same_texts : {r : Bool} → r ≡ eq_list a b → r ≡ true → true ≡ same_normal a b
   unfolding same_normal
   same_texts e y = sym (list_equal _ _ (ap normalize_string (equal_list a b (sym e ∙ y))))
 
-module _ (x y : ℕ) (p q : Text) {a b : Text} {f g whole : Bool} (u : a ≡ stepped f x p) (v : b ≡ stepped g y q) (w : whole ≡ eq_list a b) where
-  pub both_end : f ≡ true → g ≡ whole
-  unfolding stepped each
-  both_end e = sym (w ∙ rw (u, v, e) (ended g)) where
-    ended : (g : Bool) → eq_list [] (stepped g y q) ≡ g
-    ended true = refl
-    ended false = refl
+-- p and q are what is left of the two
+module _ (p q : Text) {whole : Bool} (w : whole ≡ eq_list (form false p) (form false q)) where
+  -- the first has ended: the answer is whether the second has too
+  pub one_ended : form false p ≡ [] → (r : Option Step) → Advanced q r → (t : Bool) → is_some r ≡ not t → t ≡ whole
+  unfolding each
+  one_ended u None v true e = sym (w ∙ rw (u, v) refl)
+  one_ended u None v false e = absurd (true≢false (sym e))
+  one_ended u (Some y) v true e = absurd (true≢false e)
+  one_ended u (Some y) v false e = sym (w ∙ rw (u, v.0) refl)
 
-  pub one_ends : f ≡ false → g ≡ true → false ≡ whole
-  unfolding stepped each
-  one_ends e h = sym (w ∙ rw (u, v, e, h) refl)
+  module _ {x : ℕ} {s : Text} (u : form false p ≡ x ∷ s) where
+    pub other_ended : form false q ≡ [] → false ≡ whole
+    unfolding each
+    other_ended v = sym (w ∙ rw (u, v) refl)
 
-  pub bytes_differ : f ≡ false → g ≡ false → (x ≡ y → ⊥) → false ≡ whole
-  unfolding stepped each
-  bytes_differ e h n = sym (w ∙ rw (u, v, e, h, ne_eqb x y n) refl)
+    module _ {y : ℕ} {t : Text} (v : form false q ≡ y ∷ t) where
+      pub bytes_differ : (x ≡ y → ⊥) → false ≡ whole
+      unfolding each
+      bytes_differ n = sym (w ∙ rw (u, v, ne_eqb x y n) refl)
 
-  pub bytes_agree : f ≡ false → g ≡ false → x ≡ y → whole ≡ eq_list p q
-  unfolding stepped each
-  bytes_agree e h n = w ∙ rw (u, v, e, h, eq-eqb x y n) refl
+      pub bytes_agree : x ≡ y → whole ≡ eq_list s t
+      unfolding each
+      bytes_agree n = w ∙ rw (u, v, eq-eqb x y n) refl

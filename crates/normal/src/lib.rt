@@ -1,68 +1,41 @@
 // Texts compared in normal form, byte by byte, without a buffer.
 #![tactic(auto)]
 
-ghost use Rattle.std.specs.Prelude.{◌≡◌, ◌≤◌, not, length};
-ghost use Rattle.laws.specs.Lists.{least};
-ghost use Rattle.ascii.specs.Bytes.{is_space, whole_table};
-ghost use Rattle.normal.specs.Normal.{same_normal};
-ghost use Rattle.normal.specs.Walk.{no_space_at, Advanced};
+ghost use Rattle.std.specs.Prelude.{◌≡◌};
+ghost use Rattle.normal.specs.Normal.{drop_front, same_normal};
+ghost use Rattle.normal.specs.Walk.{Advanced};
 
-// A step through a normal form: its end, or a byte of it and where the rest begins.
+// A byte of a normal form, and the text from which its rest is made.
 #[derive(Clone, Copy)]
-struct Step {
-    end: bool,
+struct Step<'a> {
     byte: u8,
-    at: usize,
+    rest: &'a [u8],
 }
 
-fn is_no_space(table: &[u16; 256], x: u8) -> bool
-    requires { table.now ≡ whole_table }
-    ensures { result ≡ not (is_space x) }
+// A text without the spaces at its front.
+fn past_spaces(s: &[u8]) -> &[u8]
+    ensures { result.now ≡ drop_front s.now }
 {
-    ascii::byte_table::entry_in(table, x) / 256 != ascii::SPACE as u16
+    let k = s.iter().position(|x| *x != b' ').unwrap_or(s.len());
+    &s[k..]
 }
 
-// The first place from i on that holds no space, or the end.
-fn past_spaces(table: &[u16; 256], s: &[u8], i: usize) -> usize
-    requires { table.now ≡ whole_table }
-    ensures { result ≡ least (no_space_at s.now) i (length s.now) }
+// The first byte of what is left of a normal form, or nothing at its end.
+fn advance(s: &[u8]) -> Option<Step<'_>>
+    ensures { Advanced s.now result }
 {
-    let mut k = i;
-    while k < s.len() {
-        if is_no_space(table, s[k]) {
-            return k;
-        }
-        k += 1;
+    let (x, after) = s.split_first()?;
+    if *x != b' ' {
+        return Some(Step {
+            byte: ascii::lower(*x),
+            rest: after,
+        });
     }
-    k
-}
-
-// The next byte of the normal form from i on, and where the rest begins.
-fn advance(table: &[u16; 256], s: &[u8], i: usize) -> Step
-    requires { (table.now ≡ whole_table) × (i ≤ length s.now) }
-    ensures { Advanced s.now i result }
-{
-    if s.len() <= i {
-        return Step {
-            end: true,
-            byte: 0,
-            at: i,
-        };
+    let rest = past_spaces(after);
+    if rest.is_empty() {
+        return None;
     }
-    let entry = ascii::byte_table::entry_in(table, s[i]);
-    if entry / 256 != ascii::SPACE as u16 {
-        return Step {
-            end: false,
-            byte: (entry % 256) as u8,
-            at: i + 1,
-        };
-    }
-    let k = past_spaces(table, s, i);
-    Step {
-        end: s.len() <= k,
-        byte: 32,
-        at: k,
-    }
+    Some(Step { byte: b' ', rest })
 }
 
 // Whether two texts have equal normal forms. Equal texts need no walk.
@@ -72,22 +45,17 @@ pub fn same_normal(a: &[u8], b: &[u8]) -> bool
     if text::same(a, b) {
         return true;
     }
-    let table = ascii::byte_table::whole();
-    let mut i = past_spaces(&table, a, 0);
-    let mut j = past_spaces(&table, b, 0);
-    loop {
-        let x = advance(&table, a, i);
-        let y = advance(&table, b, j);
-        if x.end {
-            return y.end;
-        }
-        if y.end {
+    let mut left = past_spaces(a);
+    let mut right = past_spaces(b);
+    while let Some(x) = advance(left) {
+        let Some(y) = advance(right) else {
             return false;
-        }
+        };
         if x.byte != y.byte {
             return false;
         }
-        i = x.at;
-        j = y.at;
+        left = x.rest;
+        right = y.rest;
     }
+    advance(right).is_none()
 }

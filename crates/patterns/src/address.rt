@@ -1,6 +1,6 @@
 // IP ranges.
-ghost use Rattle.std.specs.Prelude.{◌≡◌, ◌+◌, length};
-ghost use Rattle.patterns.specs.Address.{masked_equal, in_range, ip_addr_in_range};
+ghost use Rattle.std.specs.Prelude.{◌≡◌};
+ghost use Rattle.patterns.specs.Address.{masked_equal, ip_addr_in_range};
 
 fn masked_equal(network: u8, mask: u8, address: u8) -> bool
     ensures { result ≡ masked_equal network mask address }
@@ -8,23 +8,7 @@ fn masked_equal(network: u8, mask: u8, address: u8) -> bool
     network & mask == address & mask
 }
 
-// Whether an address of n bytes lies in a range of twice as many.
-fn in_range(n: usize, range: &[u8], address: &[u8]) -> bool
-    requires { (length range.now ≡ n + n) × (length address.now ≡ n) }
-    ensures { result ≡ in_range n range.now address.now }
-{
-    let mut i = 0;
-    while i < n {
-        if masked_equal(range[i], range[i + n], address[i]) {
-            i += 1;
-        } else {
-            return false;
-        }
-    }
-    true
-}
-
-// Whether an address of 4 or 16 bytes lies in the range.
+// Whether an address of 4 or 16 bytes lies in the range, which holds as many bytes of network and then as many of mask.
 pub fn ip_addr_in_range(range: &[u8], address: &[u8]) -> bool
     ensures { result ≡ ip_addr_in_range range.now address.now }
 {
@@ -32,11 +16,8 @@ pub fn ip_addr_in_range(range: &[u8], address: &[u8]) -> bool
     if range.len() != n + n {
         return false;
     }
-    if n == 4 {
-        return in_range(4, range, address);
+    if (n != 4) & (n != 16) {
+        return false;
     }
-    if n == 16 {
-        return in_range(16, range, address);
-    }
-    false
+    (0..n).all(|i| masked_equal(range[i], range[i + n], address[i]))
 }

@@ -7,7 +7,7 @@ use mathlib.Core.List.{[], ◌∷◌, ◌++◌}
 use mathlib.Core.Bool.{Bool, true, false, ◌&&◌, ◌||◌, and-true}
 use lib.Dec.{leb, eqb}
 use lib.ListN.{length, get_or, drop, take, drop_of_length-le, length-map, get_or-map}
-use lib.Seq.{drop-cons}
+use lib.Seq.{drop-cons, take_all}
 use borrow.Author.Tests.{le-leb, lt-leb}
 use Rattle.laws.specs.Lists.{each, eq_list}
 use Rattle.laws.proofs.Equal.{each_map, each_length}
@@ -19,14 +19,7 @@ use Rattle.text.specs.Texts.{Text, quoted, lowered, taken_byte, taken, starts_wi
 use Rattle.text.specs.declared.Letters.{Letters}
 use Rattle.text.specs.declared.Letters.TheVariants.{AsGiven, Lowered}
 
--- ---- a pattern's byte against a name's, by how the letters are taken
-module _ (letters : Letters) (x y : ℕ) where
-  pub as_given : letters ≡ AsGiven → {r : ℕ} → r ≡ lower_byte y → eqb x r ≡ eqb (taken_byte letters x) (lower_byte y)
-  as_given e t = rw (e, t) refl
-
-  pub both_lowered : letters ≡ Lowered → {r : Bool} → r ≡ eqb (lower_byte x) (lower_byte y) → r ≡ eqb (taken_byte letters x) (lower_byte y)
-  both_lowered e t = t ∙ rw e refl
-
+-- ---- lowering
 -- a character that lowering keeps, seen from the pattern's side
 taken_is : (letters : Letters) (k : ℕ) → ((x : ℕ) → eqb (lower_byte x) k ≡ eqb x k) → (x : ℕ) → eqb k (taken_byte letters x) ≡ eqb k x
 taken_is AsGiven k e x = refl
@@ -36,7 +29,7 @@ pub taken_each : (letters : Letters) (p n : Text) → eq_list (taken letters p) 
 unfolding taken lowered
 taken_each letters p n = each_map eqb (taken_byte letters) lower_byte p n
 
--- ---- lowering keeps the length and goes with parts
+-- lowering keeps the length and goes with parts
 pub lowered_length : (s : Text) → length (lowered s) ≡ length s
 unfolding lowered
 lowered_length s = length-map s lower_byte
@@ -60,13 +53,20 @@ lowered_at s k = get_or-map lower_byte s k 0
 
 -- ---- beginnings
 module _ (s r : Text) where
-  pub start_short : length s < length r → false ≡ starts_with s r
+  start_short : length s < length r → false ≡ starts_with s r
   unfolding starts_with
   start_short h = rw (lt-leb (length r) (length s) h) refl
 
-  pub start_same : {t : Bool} → length r ≤ length s → t ≡ eq_list r (take (length r) s) → t ≡ starts_with s r
+  start_same : length r ≤ length s → eq_list r (take (length r) s) ≡ starts_with s r
   unfolding starts_with
-  start_same h e = e ∙ rw (le-leb (length r) (length s) h) refl
+  start_same h = rw (le-leb (length r) (length s) h) refl
+
+  -- a shorter text has no such beginning, whatever is taken of it
+  pub start_of : {t : Bool} → t ≡ eq_list r (take (length r) s) → t ≡ starts_with s r
+  start_of e = elim (dec_lt (length s) (length r)) [
+    | yes h ↦ e ∙ rw (take_all (length r) s (omega arith)) (each_length eqb r s (λ q. omega (arith, q))) ∙ start_short h
+    | no n ↦ e ∙ start_same (omega arith)
+  ]
 
 -- a text begins with `*.` whether its letters are lowered or not
 pub starts_taken : (letters : Letters) (s : Text) → starts_with (taken letters s) (quoted "*.") ≡ starts_with s (quoted "*.")

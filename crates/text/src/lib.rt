@@ -1,9 +1,8 @@
 // Bytes as text. Nothing is copied: a text is a part of the bytes that somebody lends.
 #![tactic(auto)]
 
-ghost use Rattle.std.specs.Prelude.{◌≡◌, eqb, length};
+ghost use Rattle.std.specs.Prelude.{◌≡◌};
 ghost use Rattle.laws.specs.Lists.{eq_list};
-ghost use Rattle.ascii.specs.Bytes.{lower_byte};
 ghost use Rattle.text.specs.Texts.{taken_byte, taken, lowered, starts_with, ends_with, match_dns_name};
 
 // How a pattern's letters are taken: as they stand, or lowered.
@@ -13,80 +12,41 @@ pub enum Letters {
     Lowered,
 }
 
-// Whether two texts of one length are equal. The loop has no way out, so that it is compiled to compare many bytes at once.
-fn agree(a: &[u8], b: &[u8]) -> bool
-    requires { length a.now ≡ length b.now }
-    ensures { result ≡ eq_list a.now b.now }
-{
-    let mut ok = true;
-    let mut i = 0;
-    while i < a.len() {
-        ok = ok & (a[i] == b[i]);
-        i += 1;
-    }
-    ok
-}
-
-// Whether two texts are equal as they stand. Most that differ do so in their length or their first byte.
+// Whether two texts are equal as they stand.
 pub fn same(a: &[u8], b: &[u8]) -> bool
     ensures { result ≡ eq_list a.now b.now }
 {
-    if a.len() != b.len() {
-        return false;
-    }
-    if 0 < a.len() {
-        if a[0] != b[0] {
-            return false;
-        }
-    }
-    agree(a, b)
+    a == b
 }
 
-fn lowered_equal(x: u8, y: u8) -> bool
-    ensures { result ≡ eqb (lower_byte x) (lower_byte y) }
-{
-    if x == y {
-        return true;
-    }
-    ascii::lower(x) == ascii::lower(y)
-}
-
-fn taken_equal(letters: Letters, x: u8, y: u8) -> bool
-    ensures { result ≡ eqb (taken_byte letters x) (lower_byte y) }
+// A pattern's byte, its letter taken as said.
+fn taken(letters: Letters, x: u8) -> u8
+    ensures { result ≡ taken_byte letters x }
 {
     match letters {
-        Letters::AsGiven => x == ascii::lower(y),
-        Letters::Lowered => lowered_equal(x, y),
+        Letters::AsGiven => x,
+        Letters::Lowered => ascii::lower(x),
     }
 }
 
-// Whether a pattern, its letters taken as said, is the lowered name.
+// Whether a pattern, its letters taken as said, is the lowered name. The chain has no way out, so that it is compiled to compare many bytes at once.
 pub fn same_lowered(letters: Letters, p: &[u8], n: &[u8]) -> bool
     ensures { result ≡ eq_list (taken letters p.now) (lowered n.now) }
 {
     if p.len() != n.len() {
         return false;
     }
-    let mut i = 0;
-    while i < p.len() {
-        if taken_equal(letters, p[i], n[i]) {
-            i += 1;
-        } else {
-            return false;
-        }
-    }
-    true
+    p.iter().zip(n).fold(
+        true,
+        |same, (x, y)| same & (taken(letters, *x) == ascii::lower(*y)),
+    )
 }
 
 // Whether s begins with r, both as they stand.
 pub fn starts_with(s: &[u8], r: &[u8]) -> bool
     ensures { result ≡ starts_with s.now r.now }
 {
-    let k = r.len();
-    if s.len() < k {
-        return false;
-    }
-    same(r, &s[..k])
+    s.starts_with(r)
 }
 
 // Whether the lowered s ends with r, whose letters are taken as said.

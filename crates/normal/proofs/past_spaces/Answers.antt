@@ -1,21 +1,10 @@
-use mathlib.Core.Path.{refl}
-use Rattle.laws.proofs.Loops.{least_here, least_next, least_none}
-use Rattle.normal.specs.Walk.{no_space_at}
+use mathlib.Core.Bool.{not}
+use Rattle.std.proofs.Common.{rules}
+use Rattle.std.proofs.lemmas.Iterator.{YieldsList-from_slice}
+use Rattle.std.proofs.lemmas.Iterator.Search.{position_from_yields_List}
+use Rattle.ascii.specs.Bytes.{is_space}
+use Rattle.normal.proofs.Forms.{past_front}
 use Rattle.normal.proofs.past_spaces.Goals as goal
 
-pub loop-k-init : goal.loop-k-init
-loop-k-init c = refl
-
-pub is_no_space-requires : goal.is_no_space-requires
-is_no_space-requires c = c.requires
-
-pub returns-then-is_no_space : goal.returns-then-is_no_space
-unfolding no_space_at
-returns-then-is_no_space c = least_here _ _ _ c.loop-k-test.true c.is_no_space.ensures c.if-is_no_space.true c.loop-k.invariant
-
-pub loop-k-preserved : goal.loop-k-preserved
-unfolding no_space_at
-loop-k-preserved c = least_next _ _ _ c.loop-k-test.true c.is_no_space.ensures c.if-is_no_space.false c.loop-k.invariant
-
 pub returns : goal.returns
-returns c = least_none _ _ _ c.loop-k-test.false c.loop-k.invariant
+returns c = past_front _ _ c.unwrap_or-k.ensures (position_from_yields_List (λ x. not (is_space x)) _ _ _ c.position.ensures.ran (YieldsList-from_slice _ c.iter.ensures.rest) (λ x b q k. search rules))

@@ -1,26 +1,19 @@
--- Written by tools/loops.py. Assumes nothing.
+use Prim.Native.Nat.{ℕ}
 use mathlib.Core.Path.{sym, ◌∙◌}
-use native.Mathlib.Omega.{arith}
-use Rattle.laws.proofs.Rows.{at}
-use Rattle.laws.proofs.Loops.{each_start, each_here, each_next, each_none}
+use mathlib.Core.Bool.{Bool, ◌&&◌}
+use lib.Dec.{eqb}
+use Rattle.std.proofs.Common.{rules}
+use Rattle.std.proofs.lemmas.Iterator.{YieldsList-from_slice, YieldsList-from_zip}
+use Rattle.std.proofs.lemmas.Iterator.Consumers.{fold_from_yields_List}
 use Rattle.laws.proofs.Equal.{each_length}
+use Rattle.ascii.specs.Bytes.{lower_byte}
+use Rattle.text.specs.Texts.{taken_byte}
+use Rattle.text.proofs.Chains.{each_of_fold}
 use Rattle.text.proofs.Laws.{taken_each}
 use Rattle.text.proofs.same_lowered.Goals as goal
 
 pub returns-then-p-n : goal.returns-then-p-n
-returns-then-p-n c = sym (taken_each c.args.letters c.args.p.now c.args.n.now ∙ each_length _ _ _ c.if-p-n.true)
-
-pub loop-i-init : goal.loop-i-init
-loop-i-init c = taken_each c.args.letters c.args.p.now c.args.n.now ∙ each_start 0 0 _ _ _
-
-pub returns-else-taken_equal : goal.returns-else-taken_equal
-unfolding at
-returns-else-taken_equal c = each_here _ _ _ _ _ _ _ c.loop-i-test.true (omega arith) c.taken_equal.ensures c.if-taken_equal.false c.loop-i.invariant
-
-pub loop-i-preserved : goal.loop-i-preserved
-unfolding at
-loop-i-preserved c = each_next _ _ _ _ _ _ _ c.loop-i-test.true (omega arith) c.taken_equal.ensures c.if-taken_equal.true c.loop-i.invariant
+returns-then-p-n c = sym (taken_each c.args.letters _ _ ∙ each_length _ _ _ c.if-p-n.true)
 
 pub returns : goal.returns
-unfolding at
-returns c = each_none _ _ _ _ _ _ _ c.loop-i-test.false (omega arith) c.loop-i.invariant
+returns c = fold_from_yields_List _ (λ (t : Bool) (x : ℕ × ℕ). t && eqb (taken_byte c.args.letters x.0) (lower_byte x.1)) _ _ c.fold.ensures.ran (YieldsList-from_zip (YieldsList-from_slice c.args.p.now cc) (YieldsList-from_slice c.args.n.now cc)) (λ a x b q k. search rules) ∙ each_of_fold _ _ _ c.if-p-n.false ∙ sym (taken_each c.args.letters _ _)
