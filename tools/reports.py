@@ -137,11 +137,10 @@ def table(crate, row, function, definition, arms):
     """A `match` on a rule's number: each arm is a line of the definition, and `_` is past them all."""
     gives = lambda arm: f" c.{arm}.ensures" if arm else ""
     answers = {f"returns-in-{rule}": (f"{definition} when", f"rw c.in-{rule}.is{gives(arm)}") for rule, arm in arms.items()}
-    many = len(arms)
-    past = [f"other _ _ n{(many - 1 - k) * '.0'}.1 (" for k in range(many)]
-    last = ["", "let n = c.in_default.in_default-own.rest in", *past, "refl" + many * ")"]
-    answers["returns-in_default"] = (definition, "\n    ".join(last))
+    past = len(arms) * ["other _ _ (λ e. omega arith) ("]
+    answers["returns-in_default"] = (definition, "\n    ".join(["", *past, "refl" + len(arms) * ")"]))
     uses = [
+        "native.Mathlib.Omega.{arith}",
         "mathlib.Core.Path.{refl}",
         "Rattle.faults.specs.Places.{when}",
         "Rattle.faults.proofs.Laws.{other}",
