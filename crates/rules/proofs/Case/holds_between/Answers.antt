@@ -4,7 +4,7 @@ use mathlib.Core.Path.{refl}
 use Rattle.faults.specs.Places.{when}
 use Rattle.faults.proofs.Laws.{other}
 use Rattle.rules.specs.Rules.{holds_between}
-use Rattle.rules.proofs.holds_between.Goals as goal
+use Rattle.rules.proofs.Case.holds_between.Goals as goal
 
 pub returns-in-13 : goal.returns-in-13
 unfolding holds_between when

@@ -4,7 +4,7 @@ use mathlib.Core.Path.{refl}
 use Rattle.faults.specs.Places.{when}
 use Rattle.faults.proofs.Laws.{other}
 use Rattle.rules.specs.Rules.{holds_at}
-use Rattle.rules.proofs.holds_at.Goals as goal
+use Rattle.rules.proofs.Case.holds_at.Goals as goal
 
 pub returns-in-2 : goal.returns-in-2
 unfolding holds_at when
