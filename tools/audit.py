@@ -44,7 +44,7 @@ NUMBERS = {
     "data_file::read_words": {"n": "a count of words"},
     "data_file::read_bytes": {"n": "a count of bytes"},
     "data_file::words_to": {"n": "a count of words"},
-    "rules::any_breaks": {"to": "a count of certificates"},
+    "rules::Case::any_breaks": {"to": "a count of certificates"},
     "writers::write_report": {"n": "a count of certificates"},
     "faults::without": {"n": "a count of certificates", "k": "a count of certificates"},
 }
@@ -74,7 +74,7 @@ def crates():
 def path_of(crate, file, text, at):
     """The name of a function, by which a caller names it."""
     inner = [] if file.stem in ("lib", "main") else list(file.relative_to(TOP / "crates" / crate / "src").with_suffix("").parts)
-    kind = re.findall(r"^impl (\w+) \{", text[:at], re.MULTILINE)
+    kind = re.findall(r"^impl (\w+)(?:<'_>)? \{", text[:at], re.MULTILINE)
     return "::".join([crate, *inner, *(kind[-1:] if text[at] == " " else [])])
 
 

@@ -21,7 +21,7 @@ TABLES = {
         "opens": "broken",
         "specs": "Rattle.rules.specs.Rules",
         "arms": {
-            "holds_at": (
+            "Case::holds_at": (
                 "holds_at",
                 {
                     2: "check_cert_time",
@@ -41,13 +41,12 @@ TABLES = {
                     19: "valid_root_fingerprint",
                 },
             ),
-            "holds_between": ("holds_between", {13: "likely_issued", 14: "constraints_hold", 17: "duration_holds"}),
+            "Case::holds_between": ("holds_between", {13: "likely_issued", 14: "constraints_hold", 17: "duration_holds"}),
         },
         "policies": {
-            "key_holds": (None, ["check_cert_key_level", "check_cert_key_level-in-Chrome"]),
-            "purpose_holds": (None, ["check_purpose", "extended_key_usage_valid"]),
-            "constraints_hold": (None, ["check_name_constraints", "check_name_constraints-in-Chrome"]),
-            "host_holds": (None, ["host_named", "host_named-in-Chrome"]),
+            "Case::purpose_holds": (None, ["check_purpose", "extended_key_usage_valid"]),
+            "Case::constraints_hold": (None, ["check_name_constraints", "check_name_constraints-in-Chrome"]),
+            "Case::host_holds": (None, ["host_named", "host_named-in-Chrome"]),
         },
     },
 }
@@ -57,16 +56,16 @@ EACH_EARLY = ("not-any_breaks", "each_unbroken _ _ _ _ _ c.any_breaks.ensures (a
 ROW_EARLY = ("asks_nothing", "row_unasked _ _ _ _ _ _ (sym c.asks_nothing.ensures ∙ c.if-asks_nothing.true)")
 
 # The test of a rule at a spot.
-T = "(broken_in l.policy l.words l.bytes l.pwords l.pbytes)"
+T = "(broken_by l.case)"
 
-# What a turn calls and writes (k stands for the turn), the loop's variable and its bound, what has to be seen through at the end, and the law by which a loop that
-# starts at a parameter counts. skips: a turn that wrote nothing is not joined. early: what is asked before the loop.
+# What a turn calls and writes (k stands for the turn), the loop's variable, what has to be seen through at the end, and of a loop that starts at a parameter its bound
+# and the law by which it counts. skips: a turn that wrote nothing is not joined. early: what is asked before the loop.
 LOOPS = {
     "write_each": {"call": "write_one", "turn": f"asked {T} l.rule.0 (certificate (l.initial.i + k))", "var": "i", "bound": "l.to", "law": "each_turn", "early": EACH_EARLY},
-    "write_neighbours": {"call": "write_one", "turn": f"asked {T} l.rule.0 (pair k (k + 1))", "var": "i", "bound": "l.to"},
-    "write_row": {"call": "write_one", "turn": f"asked {T} l.rule.0 (pair l.i.0 k)", "var": "j", "bound": "l.to", "opens": "row", "early": ROW_EARLY},
+    "write_neighbours": {"call": "write_one", "turn": f"asked {T} l.rule.0 (pair k (k + 1))", "var": "i"},
+    "write_row": {"call": "write_one", "turn": f"asked {T} l.rule.0 (pair l.i.0 k)", "var": "j", "opens": "row", "early": ROW_EARLY},
     "write_pairs": {"call": "write_row", "turn": f"row {T} l.rule.0 (l.initial.i + k) (l.initial.i + k)", "var": "i", "bound": "l.to", "law": "pairs_turn"},
-    "write_rules": {"call": "write_rule", "turn": f"entries_at {T} (places_of l.policy k) k l.n", "var": "r", "bound": "rules", "opens": "index", "skips": True},
+    "write_rules": {"call": "write_rule", "turn": f"entries_at {T} (places_of l.case.policy k) k l.n", "var": "r", "opens": "index", "skips": True},
 }
 
 # The cases of a rule's places: the writer that each calls, and what it takes besides that the writer's entries don't name.
@@ -74,9 +73,9 @@ CASES = {
     "Leaf": ("write_one", None),
     "Root": ("write_one-in-Root", "without-last"),
     "LeafAndRoot": ("write_one-in-LeafAndRoot", "without-last"),
-    "Each": ("write_each", "without-to"),
+    "Each": ("write_each", "without"),
     "Neighbours": ("write_neighbours", "without-last"),
-    "Pairs": ("write_pairs", "without-to-in-Pairs"),
+    "Pairs": ("write_pairs", "without-in-Pairs"),
 }
 
 
@@ -85,13 +84,12 @@ def proof(crate, function, says, uses, answers, invariants=None):
 
 
 def invariant(kind):
-    """What a loop keeps: where it stands, and after these facts, whose number is given too, what is written so far."""
-    var, bound = f"l.{kind['var']}", kind["bound"]
-    facts, done = [f"({var} ≤ {bound})"], var
+    """What a loop keeps: what is written so far, and before it, of a loop that starts at a parameter, how far it has come."""
+    done, far = f"l.{kind['var']}", ""
     if "law" in kind:
         begun = f"l.initial.{kind['var']}"
-        facts, done = [f"({begun} ≤ {var})", f"({var} - {begun} ≤ {bound} - {begun})"], f"({var} - {begun})"
-    return " × ".join([*facts, f"SoFar (λ k. {kind['turn']}) {done} l.initial.report l.report l.tally"]), len(facts)
+        far, done = f"({done} - {begun} ≤ {kind['bound']} - {begun}) × ", f"({done} - {begun})"
+    return f"{far}SoFar (λ k. {kind['turn']}) {done} l.initial.report l.report l.tally"
 
 
 LOOP_USES = [
@@ -103,7 +101,7 @@ LOOP_USES = [
     "Rattle.faults.specs.Index.{asked, row, entries_at, index}",
     "Rattle.faults.proofs.Laws.{SoFar, so_far_none, so_far_more, so_far_same, each_turn, pairs_turn, so_far_done}",
     "Rattle.policies.specs.Tables.{places_of, rules}",
-    "Rattle.rules.specs.Rules.{broken_in}",
+    "Rattle.rules.specs.Rules.{broken_by}",
     "Rattle.writers.proofs.Laws.{each_unbroken, row_unasked}",
 ]
 
@@ -111,37 +109,34 @@ LOOP_USES = [
 def loop(function, kind):
     """A loop that lends the tail of the report to one writer a turn."""
     name, law = f"loop-{kind['var']}", kind.get("law")
-    keeps, known = invariant(kind)
-    kept = f"c.{name}.invariant"
-    wrote = f"_ (omega arith) {kept}.{known} c.{kind['call']}-t.ensures {f'({law} _ _ {kept}.0)' if law else 'refl'}"
+    far, kept = ("omega arith, ", f"c.{name}.invariant.1") if law else ("", f"c.{name}.invariant")
+    same = f"({law} _ _ c.{name}.auto.{kind['var']})" if law else "refl"
+    wrote = f"_ (omega arith) {kept} c.{kind['call']}-t.ensures {same}"
     more, uses = f"so_far_more {wrote} c.joined-tally.ensures", LOOP_USES
     if "skips" in kind:
         joined = f"then-t-ne0 w ↦ so_far_more {wrote} (w.tally-is ∙ w.joined-tally.ensures)"
-        same = f"else-t-ne0 w ↦ rw w.tally-is (so_far_same {wrote} w.if-t-ne0.false)"
-        more = f"elim c.if-t-ne0.branch [ {joined} | {same} ]"
+        stays = f"else-t-ne0 w ↦ rw w.tally-is (so_far_same {wrote} w.if-t-ne0.false)"
+        more = f"elim c.if-t-ne0.branch [ {joined} | {stays} ]"
         uses = [*LOOP_USES, f"Rattle.writers.proofs.{function}.Goals.{{then-t-ne0, else-t-ne0}}"]
-    facts = known * ["omega arith"]
-    done = f"so_far_done _ {kept}.{known} (omega arith)"
     asked, early = kind.get("early", (None, None))
+    turn = lambda so_far: f"({far}{so_far})" if far else so_far
     answers = {
         **({f"returns-then-{asked}": early} if asked else {}),
-        f"{name}-init": f"({', '.join([*facts, 'so_far_none _ _ _ (omega arith) (omega arith)'])})",
-        f"{name}-preserved": f"({', '.join([*facts, more])})",
-        "returns": (kind.get("opens"), done),
+        f"{name}-init": turn("so_far_none _ _ _ (omega arith) (omega arith)"),
+        f"{name}-preserved": turn(more),
+        "returns": (kind.get("opens"), f"so_far_done _ {kept} (omega arith)"),
     }
-    invariants = {f"invariant-{name}": keeps, f"decreases-{name}": f"{kind['bound']} - l.{kind['var']}"}
-    return proof("writers", function, "Each turn writes into what the turns before it left free.", uses, answers, invariants)
+    return proof("writers", function, "Each turn writes into what the turns before it left free.", uses, answers, {f"invariant-{name}": invariant(kind)})
 
 
 def table(crate, row, function, definition, arms):
     """A `match` on a rule's number: each arm is a line of the definition, and `_` is past them all."""
     gives = lambda arm: f" c.{arm}.ensures" if arm else ""
     answers = {f"returns-in-{rule}": (f"{definition} when", f"rw c.in-{rule}.is{gives(arm)}") for rule, arm in arms.items()}
-    many = len(arms)
-    past = [f"other _ _ n{(many - 1 - k) * '.0'}.1 (" for k in range(many)]
-    last = ["", "let n = c.in_default.in_default-own.rest in", *past, "refl" + many * ")"]
-    answers["returns-in_default"] = (definition, "\n    ".join(last))
+    past = len(arms) * ["other _ _ (λ e. omega arith) ("]
+    answers["returns-in_default"] = (definition, "\n    ".join(["", *past, "refl" + len(arms) * ")"]))
     uses = [
+        "native.Mathlib.Omega.{arith}",
         "mathlib.Core.Path.{refl}",
         "Rattle.faults.specs.Places.{when}",
         "Rattle.faults.proofs.Laws.{other}",
@@ -162,7 +157,7 @@ def by_policy(crate, row, function, definition, calls):
 
 def write_rule():
     """The writer of one rule: a `match` on its places."""
-    places = "← c.places_of-places.ensures"
+    places = "← c.places_of.ensures"
     answers = {"returns-in-Nowhere": ("entries_at", f"rw ({places}, c.in-Nowhere.is) (wrote_none _)")}
     for case, (call, taken) in CASES.items():
         steps = [places, f"c.in-{case}.is"] + ([f"← c.{taken}.ensures"] if taken else [])
@@ -172,20 +167,20 @@ def write_rule():
 
 
 def breaks(crate, row):
-    """Whether a rule is broken at a spot: nowhere, at one certificate, which is a run of one, between two."""
+    """Whether a rule is broken at a spot: nowhere, at one certificate, between two."""
     test = row["opens"]
     answers = {
         "returns-in-Nothing": (test, "rw c.in-Nothing.is"),
-        "returns-in-Certificate": (test, "rw c.in-Certificate.is (c.breaks_within.ensures ∙ at_one _ _ _ _ _)"),
+        "returns-in-Certificate": (test, "rw c.in-Certificate.is c.breaks_at.ensures"),
         "returns-in-Pair": (test, "rw c.in-Pair.is c.breaks_between.ensures"),
     }
-    uses = ["mathlib.Core.Path.{◌∙◌}", f"{row['specs']}.{{{test}}}", f"Rattle.{crate}.proofs.Laws.{{at_one}}"]
-    return proof(crate, "breaks", "Each kind of spot has its table.", uses, answers)
+    uses = [f"{row['specs']}.{{{test}}}"]
+    return proof(crate, "Case::breaks", "Each kind of spot has its table.", uses, answers)
 
 
 def write_one():
     """One test, and one entry where it holds."""
-    answers = {"returns": ("asked", "rw (← c.breaks-broken.ensures) c.put.ensures")}
+    answers = {"returns": ("asked", "rw (← c.breaks.ensures) c.put.ensures")}
     return proof("writers", "write_one", "One test, and one entry where it holds.", ["Rattle.faults.specs.Index.{asked}"], answers)
 
 

@@ -10,15 +10,15 @@ use lib.ListN.{length, get_or, take, drop, set, length-append, length-drop}
 use lib.Seq.{drop-length}
 use borrow.Author.Tests.{ne_eqb, lt-ltb, le-ltb}
 use borrow.Rule.Slice.PartMut.{put_mid, Post-is}
+use Rattle.std.specs.Prelude.{Option, Some, None}
+use Rattle.std.specs.Option.{option_or}
 use Rattle.laws.proofs.Parts.{rest}
-use Rattle.faults.specs.Report.{certificate, one, write, words_of, fitting, first_of, most_count, counted, Wrote, none_yet, earlier, joined}
+use Rattle.faults.specs.Report.{certificate, one, write, words_of, fitting, first_of, most_count, counted, Wrote, none_yet, joined}
 use Rattle.faults.specs.Index.{gather, asked, row, index, full_index}
 use Rattle.faults.specs.Places.{fewest, short_entry, when}
 use Rattle.faults.specs.declared.Spot.{Spot}
 use Rattle.faults.specs.declared.Entry.{Entry}
 use Rattle.faults.specs.declared.Places.{Places}
-use Rattle.faults.specs.declared.First.{First}
-use Rattle.faults.specs.declared.First.TheVariants.{Clear, Broken}
 use Rattle.faults.specs.declared.Tally.{Tally}
 
 -- ---- one buffer
@@ -91,11 +91,11 @@ pub put_one : (e : Entry) {l m : List ℕ} {t : Bool} {y : Tally} → t ≡ true
 unfolding one
 put_one e h w = rw h w
 
-pub put_cut : (e : Entry) (l : List ℕ) → length l < 3 → Wrote (e ∷ []) l l (record { total = 1; written = 0; first = Broken e })
+pub put_cut : (e : Entry) (l : List ℕ) → length l < 3 → Wrote (e ∷ []) l l (record { total = 1; written = 0; first = Some e })
 put_cut e l h = record { buffer = sym (write_short (e ∷ []) l h); total_is = refl; written_is = omega arith; first_is = refl }
 
 pub put_fits : (e : Entry) (l : List ℕ) {i j : ℕ} → 3 ≤ length l → e.rule.0 ∷ i ∷ j ∷ [] ≡ words_of e
-    → Wrote (e ∷ []) l (set (set (set l 0 e.rule.0) 1 i) 2 j) (record { total = 1; written = 1; first = Broken e })
+    → Wrote (e ∷ []) l (set (set (set l 0 e.rule.0) 1 i) 2 j) (record { total = 1; written = 1; first = Some e })
 unfolding write
 put_fits e [] h w = absurd (omega arith)
 put_fits e (x ∷ []) h w = absurd (omega arith)
@@ -104,7 +104,7 @@ put_fits e (x ∷ y ∷ z ∷ l) h w = record { buffer = ap (λ (r : List ℕ). 
 
 -- ---- writers, one after the other
 
-first_append : (a b : List Entry) → earlier (first_of a) (first_of b) ≡ first_of (a ++ b)
+first_append : (a b : List Entry) → option_or (first_of a) (first_of b) ≡ first_of (a ++ b)
 first_append [] b = refl
 first_append (e ∷ a) b = refl
 
@@ -140,9 +140,9 @@ no_entries : (es : List Entry) → counted (length es) ≡ 0 → es ≡ []
 no_entries [] h = refl
 no_entries (e ∷ es) h = absurd (omega (arith, h))
 
-none_behind : (a : First) → earlier a Clear ≡ a
-none_behind Clear = refl
-none_behind (Broken e) = refl
+none_behind : (a : Option Entry) → option_or a None ≡ a
+none_behind None = refl
+none_behind (Some e) = refl
 
 joined_none : {es : List Entry} {old new : List ℕ} (t : Tally) {u : Tally} → t.total ≤ most_count → t.written ≤ most_count → Wrote es old new u → u.total ≡ 0 → joined t u ≡ t
 joined_none {es} {old} t {u} h k q z =
@@ -150,7 +150,7 @@ joined_none {es} {old} t {u} h k q z =
     let w : u.written ≡ 0 = q.written_is ∙ rw n (zero-min _) in
     let a : counted (t.total + u.total) ≡ t.total = omega (arith, h, z) in
     let b : counted (t.written + u.written) ≡ t.written = omega (arith, k, w) in
-    let c : earlier t.first u.first ≡ t.first = rw (q.first_is, n) (none_behind t.first) in
+    let c : option_or t.first u.first ≡ t.first = rw (q.first_is, n) (none_behind t.first) in
     rw (a, b, c) refl
 
 -- ---- a loop of writers: f 0, f 1, ..

@@ -9,6 +9,7 @@ use mathlib.Core.List.Memᴰ
 use mathlib.Core.List.{List, [], ◌∷◌}
 use mathlib.Core.Bool.{Bool}
 use lib.ListN.{length, get_or, take, drop}
+use Rattle.std.specs.Prelude.{Option, Some, None}
 use Rattle.faults.specs.Report.{certificate, pair, first_word, second_word, entry, Named, words_of, write, fitting, first_of, most_count, Wrote}
 use Rattle.faults.specs.Index.{full_index}
 use Rattle.faults.specs.Places.{IsPlace, fewest}
@@ -17,8 +18,6 @@ use Rattle.faults.specs.Count.{sum, places_count, single_rules, pair_rules}
 use Rattle.faults.specs.declared.Spot.{Spot}
 use Rattle.faults.specs.declared.Spot.TheVariants.{Nothing, Certificate, Pair}
 use Rattle.faults.specs.declared.Entry.{Entry}
-use Rattle.faults.specs.declared.First.{First}
-use Rattle.faults.specs.declared.First.TheVariants.{Clear, Broken}
 use Rattle.faults.specs.declared.Tally.{Tally}
 use Rattle.faults.specs.declared.Places.{Places}
 use Rattle.faults.proofs.Index.{index_in, in_index, index_ascends, less_asym, only_one}
@@ -61,7 +60,7 @@ words_tell a b m k e =
 pub total_exact : {es : List Entry} {old new : List ℕ} {t : Tally} → Wrote es old new t → length es ≤ most_count → t.total ≡ length es
 total_exact w h = omega (arith, w.total_is)
 
-same_parts : {a a' b b' : ℕ} {f f' : First} → a ≡ a' → b ≡ b' → f ≡ f' → ◌≡◌ {A = Tally} (record { total = a; written = b; first = f }) (record { total = a'; written = b'; first = f' })
+same_parts : {a a' b b' : ℕ} {f f' : Option Entry} → a ≡ a' → b ≡ b' → f ≡ f' → ◌≡◌ {A = Tally} (record { total = a; written = b; first = f }) (record { total = a'; written = b'; first = f' })
 same_parts p q r = rw (p, q, r) refl
 
 -- Two answers of writers of the same entries are equal, and so are the words that they leave.
@@ -85,18 +84,18 @@ stands_once (x ∷ l) d a zero (suc m) h g e = let s : Less x x = subst (Less x)
 stands_once (x ∷ l) d a (suc k) (suc m) h g e = stands_once l d a.1 k m (omega arith) (omega arith) e
 
 -- The first entry of an ascending list goes before all others.
-pub head_least : (l : List Entry) → Ascending l → (f : Entry) → first_of l ≡ Broken f → In f l × ((e : Entry) → In e l → (e ≡ f) ⊎ Less f e)
+pub head_least : (l : List Entry) → Ascending l → (f : Entry) → first_of l ≡ Some f → In f l × ((e : Entry) → In e l → (e ≡ f) ⊎ Less f e)
 head_least [] a f h = absurd (let z : ◌≡◌ {A = ℕ} 0 1 = cc in omega arith)
 head_least (x ∷ l) a f h =
     let q : x ≡ f = cc in
     rw (← q) (Memᴰ.head refl, λ e m. ⊎_elim (λ (d : e ≡ x). inl d) (λ (k : In e l). inr (a.0 e k)) (Memᴰ.cases_cons m))
 
 -- A list without a first entry is empty.
-pub no_head : (l : List Entry) → first_of l ≡ Clear → (e : Entry) → In e l → ⊥
+pub no_head : (l : List Entry) → first_of l ≡ None → (e : Entry) → In e l → ⊥
 no_head [] h e m = Memᴰ.not-nil m
 no_head (x ∷ l) h e m = let z : ◌≡◌ {A = ℕ} 0 1 = cc in omega arith
 
-pub empty_head : (l : List Entry) → ((e : Entry) → In e l → ⊥) → first_of l ≡ Clear
+pub empty_head : (l : List Entry) → ((e : Entry) → In e l → ⊥) → first_of l ≡ None
 empty_head [] h = refl
 empty_head (x ∷ l) h = absurd (h x (Memᴰ.head refl))
 
@@ -182,13 +181,13 @@ module _ (short : ℕ) (T : ℕ → Spot → Bool) (P : ℕ → Places) (rules n
 -- ---- a whole report
 module _ (short : ℕ) (T : ℕ → Spot → Bool) (P : ℕ → Places) (n : ℕ) {old new : List ℕ} {t : Tally} (p : Reported short T P n old new t) where
   -- The first entry that is handed back is due, and goes before all others that are.
-  pub first_least : (f : Entry) → t.first ≡ Broken f → Due short T P n f × ((e : Entry) → Due short T P n e → (e ≡ f) ⊎ Less f e)
+  pub first_least : (f : Entry) → t.first ≡ Some f → Due short T P n f × ((e : Entry) → Due short T P n e → (e ≡ f) ⊎ Less f e)
   first_least f h =
       let (m, g) = head_least p.entries p.ascending f (sym p.wrote.first_is ∙ h) in
       ((p.exactly f).0 m, λ e d. g e ((p.exactly e).1 d))
 
   -- No first entry is handed back exactly if none is due.
-  pub first_clear : (t.first ≡ Clear) ↔ ((e : Entry) → Due short T P n e → ⊥)
+  pub first_clear : (t.first ≡ None) ↔ ((e : Entry) → Due short T P n e → ⊥)
   first_clear = (
     λ h e d. no_head p.entries (sym p.wrote.first_is ∙ h) e ((p.exactly e).1 d),
     λ h. p.wrote.first_is ∙ empty_head p.entries (λ e m. h e ((p.exactly e).0 m)),

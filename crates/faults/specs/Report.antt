@@ -1,10 +1,9 @@
 -- A report: its entries, their words, and what it is to write them into a buffer (document 01, "What the judge says"). Nothing here knows a rule. Assumes nothing.
-use Rattle.std.specs.Prelude.{ℕ, min, ◌+◌, ◌/◌, ◌<◌, ◌≡◌, List, [], ◌∷◌, ◌++◌, Bool, true, false, length}
+use Rattle.std.specs.Prelude.{ℕ, min, ◌+◌, ◌/◌, ◌<◌, ◌≡◌, List, [], ◌∷◌, ◌++◌, Bool, true, false, length, Option, Some, None}
+use Rattle.std.specs.Option.{option_or}
 use Rattle.faults.specs.declared.Spot.{Spot}
 use Rattle.faults.specs.declared.Spot.TheVariants.{Nothing, Certificate, Pair}
 use Rattle.faults.specs.declared.Entry.{Entry}
-use Rattle.faults.specs.declared.First.{First}
-use Rattle.faults.specs.declared.First.TheVariants.{Clear, Broken}
 use Rattle.faults.specs.declared.Tally.{Tally}
 
 -- the word that stands for no certificate
@@ -62,9 +61,9 @@ abbrev pub fitting : List Entry → List ℕ → ℕ
 fitting es b = min (length es) (length b / 3)
 
 -- the first of the entries, if there is one
-abbrev pub first_of : List Entry → First
-first_of [] = Clear
-first_of (e ∷ es) = Broken e
+abbrev pub first_of : List Entry → Option Entry
+first_of [] = None
+first_of (e ∷ es) = Some e
 
 -- the largest number that a count can be
 abbrev pub most_count : ℕ
@@ -83,13 +82,8 @@ pub record Wrote (es : List Entry) (old new : List ℕ) (t : Tally) : Type 0 whe
 
 -- what is handed back for no entries
 abbrev pub none_yet : Tally
-none_yet = record { total = 0; written = 0; first = Clear }
-
--- the first entry of two writers
-abbrev pub earlier : First → First → First
-earlier Clear b = b
-earlier (Broken e) b = Broken e
+none_yet = record { total = 0; written = 0; first = None }
 
 -- what two writers hand back together
 abbrev pub joined : Tally → Tally → Tally
-joined a b = record { total = counted (a.total + b.total); written = counted (a.written + b.written); first = earlier a.first b.first }
+joined a b = record { total = counted (a.total + b.total); written = counted (a.written + b.written); first = option_or a.first b.first }

@@ -1,8 +1,8 @@
 // A report of broken rules: its entries, what a writer puts into the words lent to it, and what it hands back. Nothing here knows a rule.
 #![tactic(auto)]
 
-ghost use Rattle.std.specs.Prelude.{◌≡◌, [], ◌∷◌, ◌+◌, ◌-◌};
-ghost use Rattle.faults.specs.Report.{Wrote, one, counted, joined as joinedOf, earlier as earlier_of, first_word, second_word};
+ghost use Rattle.std.specs.Prelude.{◌≡◌, [], ◌∷◌, ◌-◌};
+ghost use Rattle.faults.specs.Report.{Wrote, one, joined as joinedOf, first_word, second_word};
 ghost use Rattle.faults.specs.Places.{short_entry};
 
 use table::{CertPos, RuleNo};
@@ -12,9 +12,6 @@ const NONE: u32 = 65535;
 
 // The fewest certificates that make a chain.
 pub const FEWEST: u32 = 2;
-
-// A count stops here.
-const MOST: usize = 18446744073709551615;
 
 // Where a rule is broken: at no certificate, at one, or between two.
 #[derive(Clone, Copy)]
@@ -31,19 +28,12 @@ pub struct Entry {
     pub spot: Spot,
 }
 
-// The first entry, or that there is none.
-#[derive(Clone, Copy)]
-pub enum First {
-    Clear,
-    Broken(Entry),
-}
-
 // What a writer hands back: how many entries there are, how many of them fitted, and the first, which may not have fitted.
 #[derive(Clone, Copy)]
 pub struct Tally {
     pub total: usize,
     pub written: usize,
-    pub first: First,
+    pub first: Option<Entry>,
 }
 
 // Where a rule is asked, of n certificates. Of the numbers that a case holds, the first is where i starts, the second how many at the root's end are left out.
@@ -62,7 +52,7 @@ pub enum Places {
 pub const NONE_YET: Tally = Tally {
     total: 0,
     written: 0,
-    first: First::Clear,
+    first: None,
 };
 
 fn first_word(s: Spot) -> u32
@@ -89,7 +79,7 @@ fn second_word(s: Spot) -> u32
 pub fn put_entry(entry: Entry, report: &mut [u32]) -> Tally
     ensures { Wrote (entry ∷ []) report.old report.new result }
 {
-    let first = First::Broken(entry);
+    let first = Some(entry);
     if report.len() < 3 {
         return Tally {
             total: 1,
@@ -132,32 +122,14 @@ pub fn put_short(rule: RuleNo, report: &mut [u32]) -> Tally
     )
 }
 
-// Two counts together. The sum is not made where it would pass the largest number.
-fn sum(a: usize, b: usize) -> usize
-    ensures { result ≡ counted (a + b) }
-{
-    if MOST - a < b { MOST } else { a + b }
-}
-
-fn earlier(a: First, b: First) -> First
-    ensures { result ≡ earlier_of a b }
-{
-    match a {
-        First::Clear => b,
-        First::Broken(e) => First::Broken(e),
-    }
-}
-
 // What two writers hand back, of which the second was lent what the first left free.
 pub fn joined(a: Tally, b: Tally) -> Tally
     ensures { result ≡ joinedOf a b }
 {
-    let f = a.first;
-    let g = b.first;
     Tally {
-        total: sum(a.total, b.total),
-        written: sum(a.written, b.written),
-        first: earlier(f, g),
+        total: a.total.saturating_add(b.total),
+        written: a.written.saturating_add(b.written),
+        first: a.first.or(b.first),
     }
 }
 
@@ -165,5 +137,5 @@ pub fn joined(a: Tally, b: Tally) -> Tally
 pub fn without(n: u32, k: u32) -> u32
     ensures { result ≡ n - k }
 {
-    if n < k { 0 } else { n - k }
+    n.saturating_sub(k)
 }

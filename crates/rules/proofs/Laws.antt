@@ -1,15 +1,12 @@
 -- What holds of the rules of every policy. Assumes nothing.
-use Prim.Native.Nat.{ℕ, ◌+◌}
-use native.Mathlib.Omega.{arith}
+use Prim.Native.Nat.{ℕ}
 use mathlib.Core.Path.{◌≡◌, refl, ap}
-use mathlib.Core.Bool.{Bool, true, false, not, ◌&&◌, or-false, false≢true}
+use mathlib.Core.Bool.{Bool, true, false, not, ◌&&◌, false≢true}
 use mathlib.Core.List.{List}
 use mathlib.Core.Option.{Option, none, some}
 use lib.Dec.{eqb}
 use borrow.Author.Tests.{eqb-true}
-use Rattle.laws.specs.Lists.{any, rows}
 use Rattle.laws.specs.Optional.{is_there}
-use Rattle.laws.proofs.Rows.{rows_step, rows_end}
 use Rattle.laws.proofs.Tests.{and_left, and_right}
 use Rattle.model.specs.Model.{Cert, Chain, Lists}
 use Rattle.model.specs.Decode.{unless_zero, cert_word, nc_at, chain_of}
@@ -17,16 +14,11 @@ use Rattle.model.proofs.Optional.{there_is}
 use Rattle.constraints.specs.Keeps.{keeps_constraints}
 use Rattle.constrained_o.specs.Rule14.{check_name_constraints as check_name_constraints_o}
 use Rattle.constrained_c.specs.Rule14.{check_name_constraints as check_name_constraints_c}
-use Rattle.faults.specs.Report.{certificate, pair}
+use Rattle.faults.specs.Report.{pair}
 use Rattle.faults.specs.Places.{when}
-use Rattle.rules.specs.Rules.{constraints_hold, holds_between, broken_at, broken_between, broken, asks_nothing}
+use Rattle.rules.specs.Rules.{constraints_hold, holds_between, broken_between, broken, asks_nothing}
 use Rattle.policies.specs.declared.Policy.{Policy}
 use Rattle.policies.specs.declared.Policy.TheVariants.{OpenSsl, Chrome}
-
--- A run of one certificate.
-pub at_one : (p : Policy) (c : Chain) (l : Lists) (r i : ℕ) → any (broken p c l r) (rows certificate i (i + 1)) ≡ broken_at p c l r i
-unfolding any broken
-at_one p c l r i = rw (rows_step certificate i (i + 1) (omega arith), rows_end certificate (i + 1) (i + 1) (omega arith)) (or-false (broken_at p c l r i))
 
 -- ---- where rule 14 asks nothing
 twice : (t : Bool) → t ≡ not (not t)

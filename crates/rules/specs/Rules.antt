@@ -29,6 +29,7 @@ use Rattle.roots.specs.Fingerprints.{not_in_crl, valid_root_fingerprint}
 use Rattle.roots.specs.Symantec.{symantec_holds}
 use Rattle.policies.specs.declared.Policy.{Policy}
 use Rattle.policies.specs.declared.Policy.TheVariants.{OpenSsl, Chrome}
+use Rattle.rules.specs.declared.Case.{Case}
 
 -- what a policy without lists lends
 abbrev pub no_lists : Lists
@@ -114,3 +115,13 @@ asks_nothing c r i = eqb r 14 && not (is_there (c.cert i).nc)
 -- what is broken of the chain and the lists that two bundles hold
 abbrev pub broken_in : Policy → List ℕ → List ℕ → List ℕ → List ℕ → ℕ → Spot → Bool
 broken_in p w b pw pb = broken p (chain_of w b) (lists_of pw pb)
+
+-- ---- of a case: the chain and the lists of its two bundles, and what is broken of them
+abbrev pub chain_in : Case → Chain
+chain_in c = chain_of c.chain.words.now c.chain.bytes.now
+
+abbrev pub lists_in : Case → Lists
+lists_in c = lists_of c.lists.words.now c.lists.bytes.now
+
+abbrev pub broken_by : Case → ℕ → Spot → Bool
+broken_by c = broken_in c.policy c.chain.words.now c.chain.bytes.now c.lists.words.now c.lists.bytes.now

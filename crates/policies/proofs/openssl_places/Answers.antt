@@ -1,4 +1,5 @@
 -- Each arm is a line of the table. Written by tools/reports.py. Assumes nothing.
+use native.Mathlib.Omega.{arith}
 use mathlib.Core.Path.{refl}
 use Rattle.faults.specs.Places.{when}
 use Rattle.faults.proofs.Laws.{other}
@@ -64,19 +65,18 @@ returns-in-15 c = rw c.in-15.is
 pub returns-in_default : goal.returns-in_default
 unfolding open_ssl_places
 returns-in_default c =
-    let n = c.in_default.in_default-own.rest in
-    other _ _ n.0.0.0.0.0.0.0.0.0.0.0.0.0.1 (
-    other _ _ n.0.0.0.0.0.0.0.0.0.0.0.0.1 (
-    other _ _ n.0.0.0.0.0.0.0.0.0.0.0.1 (
-    other _ _ n.0.0.0.0.0.0.0.0.0.0.1 (
-    other _ _ n.0.0.0.0.0.0.0.0.0.1 (
-    other _ _ n.0.0.0.0.0.0.0.0.1 (
-    other _ _ n.0.0.0.0.0.0.0.1 (
-    other _ _ n.0.0.0.0.0.0.1 (
-    other _ _ n.0.0.0.0.0.1 (
-    other _ _ n.0.0.0.0.1 (
-    other _ _ n.0.0.0.1 (
-    other _ _ n.0.0.1 (
-    other _ _ n.0.1 (
-    other _ _ n.1 (
+    other _ _ (λ e. omega arith) (
+    other _ _ (λ e. omega arith) (
+    other _ _ (λ e. omega arith) (
+    other _ _ (λ e. omega arith) (
+    other _ _ (λ e. omega arith) (
+    other _ _ (λ e. omega arith) (
+    other _ _ (λ e. omega arith) (
+    other _ _ (λ e. omega arith) (
+    other _ _ (λ e. omega arith) (
+    other _ _ (λ e. omega arith) (
+    other _ _ (λ e. omega arith) (
+    other _ _ (λ e. omega arith) (
+    other _ _ (λ e. omega arith) (
+    other _ _ (λ e. omega arith) (
     refl))))))))))))))

@@ -10,10 +10,10 @@ pub returns-then-not-any_breaks : goal.returns-then-not-any_breaks
 returns-then-not-any_breaks c = each_unbroken _ _ _ _ _ c.any_breaks.ensures (ap not c.if-not-any_breaks.true)
 
 pub loop-i-init : goal.loop-i-init
-loop-i-init c = (omega arith, omega arith, so_far_none _ _ _ (omega arith) (omega arith))
+loop-i-init c = (omega arith, so_far_none _ _ _ (omega arith) (omega arith))
 
 pub loop-i-preserved : goal.loop-i-preserved
-loop-i-preserved c = (omega arith, omega arith, so_far_more _ (omega arith) c.loop-i.invariant.2 c.write_one-t.ensures (each_turn _ _ c.loop-i.invariant.0) c.joined-tally.ensures)
+loop-i-preserved c = (omega arith, so_far_more _ (omega arith) c.loop-i.invariant.1 c.write_one-t.ensures (each_turn _ _ c.loop-i.auto.i) c.joined-tally.ensures)
 
 pub returns : goal.returns
-returns c = so_far_done _ c.loop-i.invariant.2 (omega arith)
+returns c = so_far_done _ c.loop-i.invariant.1 (omega arith)

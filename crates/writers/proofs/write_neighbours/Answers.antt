@@ -5,10 +5,10 @@ use Rattle.faults.proofs.Laws.{so_far_none, so_far_more, so_far_done}
 use Rattle.writers.proofs.write_neighbours.Goals as goal
 
 pub loop-i-init : goal.loop-i-init
-loop-i-init c = (omega arith, so_far_none _ _ _ (omega arith) (omega arith))
+loop-i-init c = so_far_none _ _ _ (omega arith) (omega arith)
 
 pub loop-i-preserved : goal.loop-i-preserved
-loop-i-preserved c = (omega arith, so_far_more _ (omega arith) c.loop-i.invariant.1 c.write_one-t.ensures refl c.joined-tally.ensures)
+loop-i-preserved c = so_far_more _ (omega arith) c.loop-i.invariant c.write_one-t.ensures refl c.joined-tally.ensures
 
 pub returns : goal.returns
-returns c = so_far_done _ c.loop-i.invariant.1 (omega arith)
+returns c = so_far_done _ c.loop-i.invariant (omega arith)

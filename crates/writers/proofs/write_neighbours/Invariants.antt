@@ -1,13 +1,10 @@
 -- Each turn writes into what the turns before it left free. Written by tools/reports.py. Assumes nothing.
-use Prim.Native.Nat.{◌+◌, ◌-◌, ◌≤◌}
+use Prim.Native.Nat.{◌+◌}
 use Rattle.faults.specs.Report.{pair}
 use Rattle.faults.specs.Index.{asked}
 use Rattle.faults.proofs.Laws.{SoFar}
-use Rattle.rules.specs.Rules.{broken_in}
+use Rattle.rules.specs.Rules.{broken_by}
 use Rattle.writers.proofs.write_neighbours.Given as goal
 
 abbrev pub invariant-loop-i : goal.invariant-loop-i
-invariant-loop-i l = (l.i ≤ l.to) × SoFar (λ k. asked (broken_in l.policy l.words l.bytes l.pwords l.pbytes) l.rule.0 (pair k (k + 1))) l.i l.initial.report l.report l.tally
-
-abbrev pub decreases-loop-i : goal.decreases-loop-i
-decreases-loop-i l = l.to - l.i
+invariant-loop-i l = SoFar (λ k. asked (broken_by l.case) l.rule.0 (pair k (k + 1))) l.i l.initial.report l.report l.tally

@@ -4,4 +4,4 @@ use Rattle.writers.proofs.write_one.Goals as goal
 
 pub returns : goal.returns
 unfolding asked
-returns c = rw (← c.breaks-broken.ensures) c.put.ensures
+returns c = rw (← c.breaks.ensures) c.put.ensures

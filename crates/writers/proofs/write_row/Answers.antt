@@ -10,11 +10,11 @@ pub returns-then-asks_nothing : goal.returns-then-asks_nothing
 returns-then-asks_nothing c = row_unasked _ _ _ _ _ _ (sym c.asks_nothing.ensures ∙ c.if-asks_nothing.true)
 
 pub loop-j-init : goal.loop-j-init
-loop-j-init c = (omega arith, so_far_none _ _ _ (omega arith) (omega arith))
+loop-j-init c = so_far_none _ _ _ (omega arith) (omega arith)
 
 pub loop-j-preserved : goal.loop-j-preserved
-loop-j-preserved c = (omega arith, so_far_more _ (omega arith) c.loop-j.invariant.1 c.write_one-t.ensures refl c.joined-tally.ensures)
+loop-j-preserved c = so_far_more _ (omega arith) c.loop-j.invariant c.write_one-t.ensures refl c.joined-tally.ensures
 
 pub returns : goal.returns
 unfolding row
-returns c = so_far_done _ c.loop-j.invariant.1 (omega arith)
+returns c = so_far_done _ c.loop-j.invariant (omega arith)

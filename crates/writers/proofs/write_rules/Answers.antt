@@ -7,11 +7,11 @@ use Rattle.writers.proofs.write_rules.Goals.{then-t-ne0, else-t-ne0}
 use Rattle.writers.proofs.write_rules.Goals as goal
 
 pub loop-r-init : goal.loop-r-init
-loop-r-init c = (omega arith, so_far_none _ _ _ (omega arith) (omega arith))
+loop-r-init c = so_far_none _ _ _ (omega arith) (omega arith)
 
 pub loop-r-preserved : goal.loop-r-preserved
-loop-r-preserved c = (omega arith, elim c.if-t-ne0.branch [ then-t-ne0 w ↦ so_far_more _ (omega arith) c.loop-r.invariant.1 c.write_rule-t.ensures refl (w.tally-is ∙ w.joined-tally.ensures) | else-t-ne0 w ↦ rw w.tally-is (so_far_same _ (omega arith) c.loop-r.invariant.1 c.write_rule-t.ensures refl w.if-t-ne0.false) ])
+loop-r-preserved c = elim c.if-t-ne0.branch [ then-t-ne0 w ↦ so_far_more _ (omega arith) c.loop-r.invariant c.write_rule-t.ensures refl (w.tally-is ∙ w.joined-tally.ensures) | else-t-ne0 w ↦ rw w.tally-is (so_far_same _ (omega arith) c.loop-r.invariant c.write_rule-t.ensures refl w.if-t-ne0.false) ]
 
 pub returns : goal.returns
 unfolding index
-returns c = so_far_done _ c.loop-r.invariant.1 (omega arith)
+returns c = so_far_done _ c.loop-r.invariant (omega arith)

@@ -1,9 +1,10 @@
 -- Each arm is a line of the table. Written by tools/reports.py. Assumes nothing.
+use native.Mathlib.Omega.{arith}
 use mathlib.Core.Path.{refl}
 use Rattle.faults.specs.Places.{when}
 use Rattle.faults.proofs.Laws.{other}
 use Rattle.rules.specs.Rules.{holds_between}
-use Rattle.rules.proofs.holds_between.Goals as goal
+use Rattle.rules.proofs.Case.holds_between.Goals as goal
 
 pub returns-in-13 : goal.returns-in-13
 unfolding holds_between when
@@ -20,8 +21,7 @@ returns-in-17 c = rw c.in-17.is c.duration_holds.ensures
 pub returns-in_default : goal.returns-in_default
 unfolding holds_between
 returns-in_default c =
-    let n = c.in_default.in_default-own.rest in
-    other _ _ n.0.0.1 (
-    other _ _ n.0.1 (
-    other _ _ n.1 (
+    other _ _ (λ e. omega arith) (
+    other _ _ (λ e. omega arith) (
+    other _ _ (λ e. omega arith) (
     refl)))

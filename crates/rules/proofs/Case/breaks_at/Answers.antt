@@ -3,7 +3,7 @@ use mathlib.Core.Bool.{not}
 use Rattle.faults.specs.Places.{when}
 use Rattle.faults.proofs.Laws.{other}
 use Rattle.rules.specs.Rules.{broken_at}
-use Rattle.rules.proofs.breaks_at.Goals as goal
+use Rattle.rules.proofs.Case.breaks_at.Goals as goal
 
 pub returns-then-rule-eq-SYMANTEC : goal.returns-then-rule-eq-SYMANTEC
 unfolding broken_at when

@@ -1,5 +1,5 @@
 use mathlib.Core.Path.{refl}
-use Rattle.rules.proofs.is_root.Goals as goal
+use Rattle.rules.proofs.Case.is_root.Goals as goal
 
 pub returns : goal.returns
 returns c = rw c.count.ensures refl

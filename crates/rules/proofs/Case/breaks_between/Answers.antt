@@ -1,6 +1,6 @@
 use mathlib.Core.Path.{refl}
 use Rattle.rules.specs.Rules.{broken_between}
-use Rattle.rules.proofs.breaks_between.Goals as goal
+use Rattle.rules.proofs.Case.breaks_between.Goals as goal
 
 pub returns : goal.returns
 unfolding broken_between

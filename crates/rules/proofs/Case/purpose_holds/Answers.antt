@@ -1,5 +1,5 @@
 -- Each policy has its own. Written by tools/reports.py. Assumes nothing.
-use Rattle.rules.proofs.purpose_holds.Goals as goal
+use Rattle.rules.proofs.Case.purpose_holds.Goals as goal
 
 pub returns-in-OpenSsl : goal.returns-in-OpenSsl
 returns-in-OpenSsl c = rw c.in-OpenSsl.is c.check_purpose.ensures

@@ -1,9 +1,10 @@
 -- Each arm is a line of the table. Written by tools/reports.py. Assumes nothing.
+use native.Mathlib.Omega.{arith}
 use mathlib.Core.Path.{refl}
 use Rattle.faults.specs.Places.{when}
 use Rattle.faults.proofs.Laws.{other}
 use Rattle.rules.specs.Rules.{holds_at}
-use Rattle.rules.proofs.holds_at.Goals as goal
+use Rattle.rules.proofs.Case.holds_at.Goals as goal
 
 pub returns-in-2 : goal.returns-in-2
 unfolding holds_at when
@@ -68,20 +69,19 @@ returns-in-19 c = rw c.in-19.is c.valid_root_fingerprint.ensures
 pub returns-in_default : goal.returns-in_default
 unfolding holds_at
 returns-in_default c =
-    let n = c.in_default.in_default-own.rest in
-    other _ _ n.0.0.0.0.0.0.0.0.0.0.0.0.0.0.1 (
-    other _ _ n.0.0.0.0.0.0.0.0.0.0.0.0.0.1 (
-    other _ _ n.0.0.0.0.0.0.0.0.0.0.0.0.1 (
-    other _ _ n.0.0.0.0.0.0.0.0.0.0.0.1 (
-    other _ _ n.0.0.0.0.0.0.0.0.0.0.1 (
-    other _ _ n.0.0.0.0.0.0.0.0.0.1 (
-    other _ _ n.0.0.0.0.0.0.0.0.1 (
-    other _ _ n.0.0.0.0.0.0.0.1 (
-    other _ _ n.0.0.0.0.0.0.1 (
-    other _ _ n.0.0.0.0.0.1 (
-    other _ _ n.0.0.0.0.1 (
-    other _ _ n.0.0.0.1 (
-    other _ _ n.0.0.1 (
-    other _ _ n.0.1 (
-    other _ _ n.1 (
+    other _ _ (λ e. omega arith) (
+    other _ _ (λ e. omega arith) (
+    other _ _ (λ e. omega arith) (
+    other _ _ (λ e. omega arith) (
+    other _ _ (λ e. omega arith) (
+    other _ _ (λ e. omega arith) (
+    other _ _ (λ e. omega arith) (
+    other _ _ (λ e. omega arith) (
+    other _ _ (λ e. omega arith) (
+    other _ _ (λ e. omega arith) (
+    other _ _ (λ e. omega arith) (
+    other _ _ (λ e. omega arith) (
+    other _ _ (λ e. omega arith) (
+    other _ _ (λ e. omega arith) (
+    other _ _ (λ e. omega arith) (
     refl)))))))))))))))
