@@ -3,293 +3,191 @@
 // The file is a row of bundles as `data_file` reads them, each with four numbers behind it: which bundle it is (0 chain, 1 policy), the refusal (0 for sound), the kind of its place (0 nothing, 1 word), the word.
 #![tactic(auto)]
 
-use data_file::{Got, Read};
+use data_file::{Ended, Size};
 use sound::{Bundle, Checked, Place};
-use std::io;
+use std::{fmt, io};
+use table::Lent;
 
-// The answer to a bundle in numbers: the refusal (0 for sound), the bundle (0 chain, 1 policy), the kind of the place and its word.
-#[derive(Clone, Copy)]
+// The answer to a bundle. It stays in the numbers of the file, so that each answer that a file may name, one that no check gives too, is compared and written as it stands.
+#[derive(Clone, Copy, PartialEq)]
 struct Answer {
-    number: u64,
     bundle: u64,
+    number: u64,
     kind: u64,
     word: u64,
 }
 
-#[derive(Clone, Copy)]
-enum Due {
-    Is(Answer),
-    Cut,
-}
-
-#[derive(Clone, Copy)]
-enum Turn {
-    Agreed,
-    Differed,
-    End,
-}
-
-// ---- the answer of a check
-
-fn placed(number: u64, bundle: u64, p: Place) -> Answer {
-    match p {
-        Place::Nothing => Answer {
-            number: number,
-            bundle: bundle,
-            kind: 0,
-            word: 0,
-        },
-        Place::Word(w) => Answer {
-            number: number,
-            bundle: bundle,
-            kind: 1,
-            word: w as u64,
-        },
-        Place::Certificate(_) => Answer {
-            number: number,
-            bundle: bundle,
-            kind: 2,
-            word: 0,
-        },
-        Place::Pair(_, _) => Answer {
-            number: number,
-            bundle: bundle,
-            kind: 3,
-            word: 0,
-        },
+// As a line of the output names it.
+impl fmt::Display for Answer {
+    fn fmt<W: fmt::Write>(&self, f: &mut fmt::Formatter<W>) -> fmt::Result {
+        if self.number == 0 {
+            return f.write_str("sound");
+        }
+        let bundle = if self.bundle == 0 { "chain" } else { "policy" };
+        write!(f, "refusal {} of the {bundle} at ", self.number)?;
+        match self.kind {
+            0 => f.write_str("nothing"),
+            1 => write!(f, "word {}", self.word),
+            2 => f.write_str("a certificate"),
+            _ => f.write_str("a pair"),
+        }
     }
 }
 
-fn bundle_number(b: Bundle) -> u64 {
-    match b {
+// How many bundles got the answer that is due, by refusal (0 for sound).
+#[derive(Default, Drop)]
+struct Counts {
+    chain: [u64; 9],
+    policy: [u64; 9],
+}
+
+impl Counts {
+    // Counts an answer, where its number is one of the nine.
+    fn add(&mut self, a: Answer) {
+        let counts = if a.bundle == 0 {
+            &mut self.chain
+        } else {
+            &mut self.policy
+        };
+        if let Some(n) = counts.get_mut(a.number as usize) {
+            *n = n.saturating_add(1);
+        }
+    }
+
+    // Writes a line for each number. Of refusal 1 no check of a bundle speaks.
+    fn print<W: io::Write>(&self, out: &mut W) -> io::Result<()> {
+        writeln!(
+            out,
+            "sound: chain {}, policy {}",
+            self.chain[0], self.policy[0]
+        )?;
+        for n in 2..9 {
+            writeln!(
+                out,
+                "refusal {n}: chain {}, policy {}",
+                self.chain[n], self.policy[n]
+            )?;
+        }
+        Ok(())
+    }
+}
+
+// A refusal in the numbers of the file.
+fn refused(number: u64, bundle: Bundle, place: Place) -> Answer {
+    let bundle = match bundle {
         Bundle::Chain => 0,
         Bundle::Policy => 1,
+    };
+    let (kind, word) = match place {
+        Place::Nothing => (0, 0),
+        Place::Word(w) => (1, w as u64),
+        Place::Certificate(_) => (2, 0),
+        Place::Pair(_, _) => (3, 0),
+    };
+    Answer {
+        bundle,
+        number,
+        kind,
+        word,
     }
 }
 
-fn answer_of(bundle: u64, c: Checked) -> Answer {
-    match c {
+// What the check of a bundle answers.
+fn check(bundle: u64, lent: Lent) -> Answer {
+    let checked = if bundle == 0 {
+        sound::check_chain(lent.words, lent.bytes)
+    } else {
+        sound::check_policy(lent.words, lent.bytes)
+    };
+    match checked {
         Checked::Sound => Answer {
+            bundle,
             number: 0,
-            bundle: bundle,
             kind: 0,
             word: 0,
         },
-        Checked::Refused(n, b, p) => placed(n, bundle_number(b), p),
+        Checked::Refused(number, bundle, place) => refused(number, bundle, place),
     }
 }
 
-fn check(bundle: u64, words: &[u64], bytes: &[u8]) -> Answer {
-    if bundle == 0 {
-        return answer_of(bundle, sound::check_chain(words, bytes));
-    }
-    answer_of(bundle, sound::check_policy(words, bytes))
+// Reads a bundle to the arrays lent, and the answer that is due.
+fn read_case<R: io::Read>(
+    file: &mut R,
+    words: &mut [u64],
+    bytes: &mut [u8],
+) -> Result<(Size, Answer), Ended> {
+    let size = data_file::read_bundle(file, words, bytes)?;
+    let mut due = [0u64; 4];
+    data_file::read_words(file, &mut due, 4).map_err(|_| Ended::Less)?;
+    let [bundle, number, kind, word] = due;
+    Ok((
+        size,
+        Answer {
+            bundle,
+            number,
+            kind,
+            word,
+        },
+    ))
 }
 
-fn same(a: Answer, b: Answer) -> bool {
-    (a.number == b.number) & (a.bundle == b.bundle) & (a.kind == b.kind) & (a.word == b.word)
-}
-
-// ---- writing
-
-fn print<W: io::Write>(out: &mut W, text: &[u8]) -> io::Result<()> {
-    out.write_all(text)
-}
-
-fn print_number<W: io::Write>(out: &mut W, n: u64) -> io::Result<()> {
-    write!(out, "{n}")
-}
-
-fn print_place<W: io::Write>(out: &mut W, kind: u64, word: u64) -> io::Result<()> {
-    match kind {
-        0 => print(out, b"nothing"),
-        1 => {
-            print(out, b"word ")?;
-            print_number(out, word)
-        }
-        2 => print(out, b"a certificate"),
-        _ => print(out, b"a pair"),
-    }
-}
-
-fn print_bundle<W: io::Write>(out: &mut W, bundle: u64) -> io::Result<()> {
-    match bundle {
-        0 => print(out, b" of the chain at "),
-        _ => print(out, b" of the policy at "),
-    }
-}
-
-fn print_answer<W: io::Write>(out: &mut W, a: Answer) -> io::Result<()> {
-    if a.number == 0 {
-        return print(out, b"sound");
-    }
-    print(out, b"refusal ")?;
-    print_number(out, a.number)?;
-    print_bundle(out, a.bundle)?;
-    print_place(out, a.kind, a.word)
-}
-
-fn print_difference<W: io::Write>(
-    out: &mut W,
-    index: u64,
-    due: Answer,
-    got: Answer,
-) -> io::Result<()> {
-    print(out, b"bundle ")?;
-    print_number(out, index)?;
-    print(out, b": expected ")?;
-    print_answer(out, due)?;
-    print(out, b", got ")?;
-    print_answer(out, got)?;
-    print(out, b"\n")
-}
-
-// Says that the file ends inside a bundle, or names more than there is room for.
-fn cut_off<W: io::Write>(out: &mut W, index: u64) -> io::Result<Turn> {
-    print(out, b"bundle ")?;
-    print_number(out, index)?;
-    print(out, b" is cut off\n")?;
-    Ok(Turn::End)
-}
-
-fn print_row<W: io::Write>(out: &mut W, number: u64, chain: u64, policy: u64) -> io::Result<()> {
-    if number == 0 {
-        print(out, b"sound")?;
-    } else {
-        print(out, b"refusal ")?;
-        print_number(out, number)?;
-    }
-    print(out, b": chain ")?;
-    print_number(out, chain)?;
-    print(out, b", policy ")?;
-    print_number(out, policy)?;
-    print(out, b"\n")
-}
-
-// Of refusal 1 no check of a bundle speaks.
-fn print_table<W: io::Write>(out: &mut W, chain: &[u64; 9], policy: &[u64; 9]) -> io::Result<()> {
-    print_row(out, 0, chain[0], policy[0])?;
-    for n in 2..9 {
-        print_row(out, n as u64, chain[n], policy[n])?;
-    }
-    Ok(())
-}
-
-fn print_total<W: io::Write>(out: &mut W, all: u64, agreed: u64) -> io::Result<()> {
-    let differed = if agreed < all { all - agreed } else { 0 };
-    print_number(out, differed)?;
-    print(out, b" with another answer\n")?;
-    print_number(out, all)?;
-    print(out, b" bundles, ")?;
-    print_number(out, agreed)?;
-    print(out, b" as expected\n")
-}
-
-// ---- the cases
-
-fn count(counts: &mut [u64; 9], number: u64) {
-    if 9 <= number {
-        return;
-    }
-    let at = number as usize;
-    let n = counts[at];
-    if n < u64::MAX {
-        counts[at] = n + 1;
-    }
-}
-
+// Whether the check answers what is due. Another answer is told.
 fn compare<W: io::Write>(
     out: &mut W,
     index: u64,
     due: Answer,
-    got: Answer,
-    chain: &mut [u64; 9],
-    policy: &mut [u64; 9],
-) -> io::Result<Turn> {
-    if !same(due, got) {
-        print_difference(out, index, due, got)?;
-        return Ok(Turn::Differed);
+    lent: Lent,
+    counts: &mut Counts,
+) -> io::Result<bool> {
+    let got = check(due.bundle, lent);
+    if due != got {
+        writeln!(out, "bundle {index}: expected {due}, got {got}")?;
+        return Ok(false);
     }
-    if due.bundle == 0 {
-        count(chain, due.number);
-    } else {
-        count(policy, due.number);
-    }
-    Ok(Turn::Agreed)
+    counts.add(due);
+    Ok(true)
 }
 
-fn read_due<R: io::Read>(file: &mut R) -> Due {
-    let mut due = [0u64; 4];
-    let Got::All = data_file::read_words(file, &mut due, 4) else {
-        return Due::Cut;
-    };
-    Due::Is(Answer {
-        number: due[1],
-        bundle: due[0],
-        kind: due[2],
-        word: due[3],
-    })
-}
-
-fn replay<R: io::Read, W: io::Write>(
-    file: &mut R,
-    out: &mut W,
-    index: u64,
-    words: &[u64],
-    bytes: &[u8],
-    chain: &mut [u64; 9],
-    policy: &mut [u64; 9],
-) -> io::Result<Turn> {
-    let Due::Is(due) = read_due(file) else {
-        return cut_off(out, index);
-    };
-    let got = check(due.bundle, words, bytes);
-    compare(out, index, due, got, chain, policy)
-}
-
-// The arrays have one word and one byte more than a check takes, so that a bundle can be too large.
+// Replays the next bundle, where there is one: whether it got the answer that is due. The arrays have one word and one byte more than a check takes, so that a bundle can be too large.
 fn replay_next<R: io::Read, W: io::Write>(
     file: &mut R,
     out: &mut W,
     index: u64,
-    chain: &mut [u64; 9],
-    policy: &mut [u64; 9],
-) -> io::Result<Turn> {
+    counts: &mut Counts,
+) -> io::Result<Option<bool>> {
     let mut words = [0u64; 8193];
     let mut bytes = [0u8; 65537];
-    let read = data_file::read_bundle(file, &mut words, &mut bytes);
-    match read {
-        Read::Is(size) => replay(
-            file,
-            out,
-            index,
-            data_file::words_to(&words, size.words),
-            table::cut(&bytes, 0, size.bytes as u64),
-            chain,
-            policy,
-        ),
-        Read::Nothing => Ok(Turn::End),
-        Read::Less => cut_off(out, index),
+    match read_case(file, &mut words, &mut bytes) {
+        Ok((size, due)) => {
+            let lent = Lent {
+                words: data_file::words_to(&words, size.words),
+                bytes: table::cut(&bytes, 0, size.bytes as u64),
+            };
+            Ok(Some(compare(out, index, due, lent, counts)?))
+        }
+        Err(Ended::Nothing) => Ok(None),
+        Err(Ended::Less) => {
+            writeln!(out, "bundle {index} is cut off")?;
+            Ok(None)
+        }
     }
 }
 
 // A proved loop has to end, and nothing says that a file does: it counts up to a number that no run reaches.
 fn replay_all<R: io::Read, W: io::Write>(file: &mut R, out: &mut W) -> io::Result<()> {
-    let mut chain = [0u64; 9];
-    let mut policy = [0u64; 9];
-    let mut all: u64 = 0;
-    let mut agreed: u64 = 0;
-    while all < u64::MAX {
-        let turn = replay_next(file, out, all, &mut chain, &mut policy)?;
-        match turn {
-            Turn::Agreed => agreed += 1,
-            Turn::Differed => {}
-            Turn::End => break,
+    let mut counts = Counts::default();
+    let mut agreed = 0u64;
+    let mut differed = 0u64;
+    for index in 0..u64::MAX {
+        match replay_next(file, out, index, &mut counts)? {
+            Some(true) => agreed += 1,
+            Some(false) => differed += 1,
+            None => break,
         }
-        all += 1;
     }
-    print_table(out, &chain, &policy)?;
-    print_total(out, all, agreed)
+    counts.print(out)?;
+    writeln!(out, "{differed} with another answer")?;
+    writeln!(out, "{} bundles, {agreed} as expected", agreed + differed)
 }
 
 fn main(rt: HostRuntime) -> io::Result<()> {

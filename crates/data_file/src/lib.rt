@@ -1,17 +1,16 @@
 // Reads of a data file: words of eight bytes each, and bytes. No contract can say what a file holds: these say what a read may change, and what it answers without one. A read that fails counts as the file's end.
 #![tactic(auto)]
 
-ghost use Rattle.std.specs.Prelude.{◌+◌, ◌*◌, ◌≤◌, ◌<◌, ◌≡◌, true, get_or, take, length};
+ghost use Rattle.std.specs.Prelude.{◌≤◌, ◌≡◌, true, take, length, IfOk};
 ghost use Rattle.data_file.specs.DataFile.{word_of, Filled, Begins, BundleRead};
 
 use std::io::BufReader;
 use std::rt::Files;
 use std::{fs, io};
 
-// What a read got: all that was asked for; nothing, since the file had ended; or less, since it ended on the way or there was no room.
+// How a read ended that didn't get all that was asked for: at once, since the file had ended; or with less, since the file ended on the way or there was no room.
 #[derive(Clone, Copy)]
-pub enum Got {
-    All,
+pub enum Ended {
     Nothing,
     Less,
 }
@@ -23,20 +22,18 @@ pub struct Size {
     pub bytes: usize,
 }
 
-// A bundle that was read, by its size; or that there was none, since the file had ended; or that it is cut off or too large.
+// How many values are given, and how many there are with the zeros behind them.
 #[derive(Clone, Copy)]
-pub enum Read {
-    Is(Size),
-    Nothing,
-    Less,
+struct Count {
+    given: u64,
+    all: u64,
 }
 
-// The next word of a file, or how the file ended.
+// What a bundle begins with: the count of its words and that of its bytes.
 #[derive(Clone, Copy)]
-enum Next {
-    Is(u64),
-    End,
-    Cut,
+struct Counts {
+    words: Count,
+    bytes: Count,
 }
 
 // Opens a data file. One that can't be opened is named on standard error.
@@ -50,30 +47,24 @@ pub fn open<R: Files + Eprint + AllocGlobal>(rt: &R, name: &str) -> io::Result<B
     }
 }
 
-// A byte as a number to compute with.
-fn wide(x: u8) -> u64
-    ensures { result ≡ x }
-{
-    x as u64
-}
-
-// Four bytes as a number, the low byte first.
-fn four(a: u8, b: u8, c: u8, d: u8) -> u64
-    ensures value { result ≡ a + 256 * (b + 256 * (c + 256 * d)) }
-    ensures upper_bound { result < 4294967296 }
-{
-    wide(a) + 256 * (wide(b) + 256 * (wide(c) + 256 * wide(d)))
-}
-
 // Eight bytes as a number, the low byte first.
-#[tactic(auto, using(crate::proofs::Laws::two_halves))]
+#[tactic(auto, using(crate::proofs::Laws::low_first))]
 pub fn word_of(b: [u8; 8]) -> u64
     ensures { result ≡ word_of b }
 {
-    four(b[0], b[1], b[2], b[3]) + 4294967296 * four(b[4], b[5], b[6], b[7])
+    u64::from_le_bytes(b)
 }
 
-// Reads until the bytes lent are full, the file ends or a read fails, and gives how many were read.
+// How a read ended that got so much.
+fn ended_after(got: usize) -> Ended {
+    if got == 0 {
+        Ended::Nothing
+    } else {
+        Ended::Less
+    }
+}
+
+// Reads until the bytes lent are full, the file ends or a read fails, and gives how many were read. The library's `read_exact` doesn't say how many.
 fn read_full<R: io::Read>(file: &mut R, bytes: &mut [u8]) -> usize
     ensures { result ≤ length bytes.new }
 {
@@ -89,117 +80,99 @@ fn read_full<R: io::Read>(file: &mut R, bytes: &mut [u8]) -> usize
 }
 
 // Reads one word.
-fn next_word<R: io::Read>(file: &mut R) -> Next {
+fn next_word<R: io::Read>(file: &mut R) -> Result<u64, Ended> {
     let mut b = [0u8; 8];
-    let got = read_full(file, &mut b);
-    if got == 0 {
-        return Next::End;
-    }
-    if got < 8 {
-        return Next::Cut;
-    }
-    Next::Is(word_of(b))
-}
-
-// What was got of a file that ended before word i.
-fn ended(i: usize) -> Got {
-    if i == 0 { Got::Nothing } else { Got::Less }
+    read_bytes(file, &mut b, 8)?;
+    Ok(word_of(b))
 }
 
 // Reads n words to the start of those lent.
-pub fn read_words<R: io::Read>(file: &mut R, words: &mut [u64], n: usize) -> Got
+pub fn read_words<R: io::Read>(file: &mut R, words: &mut [u64], n: usize) -> Result<(), Ended>
     ensures { Filled n words.old words.new result }
 {
     if words.len() < n {
-        return Got::Less;
+        return Err(Ended::Less);
     }
-    let mut i = 0;
-    while i < n {
-        let next = next_word(file);
-        match next {
-            Next::Is(w) => words[i] = w,
-            Next::End => return ended(i),
-            Next::Cut => return Got::Less,
-        }
-        i += 1;
+    for i in 0..n {
+        words[i] = next_word(file).map_err(|e| if i == 0 { e } else { Ended::Less })?;
     }
-    Got::All
+    Ok(())
 }
 
 // Reads n bytes to the start of those lent.
-pub fn read_bytes<R: io::Read>(file: &mut R, bytes: &mut [u8], n: usize) -> Got
+pub fn read_bytes<R: io::Read>(file: &mut R, bytes: &mut [u8], n: usize) -> Result<(), Ended>
     ensures { Filled n bytes.old bytes.new result }
 {
     if bytes.len() < n {
-        return Got::Less;
+        return Err(Ended::Less);
     }
     let got = read_full(file, &mut bytes[..n]);
     if got == n {
-        return Got::All;
+        Ok(())
+    } else {
+        Err(ended_after(got))
     }
-    ended(got)
 }
 
-// Whether no more values are given than there are in all, and all have room.
-fn has_room(given: u64, all: u64, room: usize) -> bool
-    ensures { result ≡ true → (given ≤ all) × (all ≤ room) }
+// Reads what a bundle begins with.
+fn read_counts<R: io::Read>(file: &mut R) -> Result<Counts, Ended> {
+    let mut n = [0u64; 4];
+    read_words(file, &mut n, 4)?;
+    Ok(Counts {
+        words: Count {
+            given: n[0],
+            all: n[1],
+        },
+        bytes: Count {
+            given: n[2],
+            all: n[3],
+        },
+    })
+}
+
+// How many values there are in all, where no more are given and all have room.
+fn size_within(count: Count, room: usize) -> Result<usize, Ended>
+    ensures { IfOk result (λ n. (count.given ≤ n) × (n ≤ room)) }
 {
-    if all < given {
-        return false;
+    if count.given <= count.all && count.all <= room as u64 {
+        return Ok(count.all as usize);
     }
-    if room < all as usize {
-        return false;
-    }
-    true
+    Err(Ended::Less)
 }
 
 // Reads the words and the bytes that are given, where all have room.
 fn read_given<R: io::Read>(
     file: &mut R,
-    counts: &[u64; 4],
+    counts: Counts,
     words: &mut [u64],
     bytes: &mut [u8],
-) -> bool
-    ensures { result ≡ true → Begins (get_or counts.now 1 0) words.old words.new × Begins (get_or counts.now 3 0) bytes.old bytes.new }
+) -> Result<Size, Ended>
+    ensures { IfOk result (λ s. Begins s.words words.old words.new × Begins s.bytes bytes.old bytes.new) }
 {
-    if !has_room(counts[0], counts[1], words.len()) {
-        return false;
-    }
-    if !has_room(counts[2], counts[3], bytes.len()) {
-        return false;
-    }
-    let Got::All = read_words(file, words, counts[0] as usize) else {
-        return false;
+    let size = Size {
+        words: size_within(counts.words, words.len())?,
+        bytes: size_within(counts.bytes, bytes.len())?,
     };
-    let Got::All = read_bytes(file, bytes, counts[2] as usize) else {
-        return false;
-    };
-    true
+    read_words(file, words, counts.words.given as usize)?;
+    read_bytes(file, bytes, counts.bytes.given as usize)?;
+    Ok(size)
 }
 
 // Reads a bundle to the start of the zeros lent: the words given, the words with the zeros behind them, the bytes given, the bytes with the zeros behind them; then the words and the bytes given.
-pub fn read_bundle<R: io::Read>(file: &mut R, words: &mut [u64], bytes: &mut [u8]) -> Read
+pub fn read_bundle<R: io::Read>(
+    file: &mut R,
+    words: &mut [u64],
+    bytes: &mut [u8],
+) -> Result<Size, Ended>
     ensures { BundleRead words.old words.new bytes.old bytes.new result }
 {
-    let mut counts = [0u64; 4];
-    let got = read_words(file, &mut counts, 4);
-    match got {
-        Got::All => {}
-        Got::Nothing => return Read::Nothing,
-        Got::Less => return Read::Less,
-    }
-    if !read_given(file, &counts, words, bytes) {
-        return Read::Less;
-    }
-    Read::Is(Size {
-        words: counts[1] as usize,
-        bytes: counts[3] as usize,
-    })
+    let counts = read_counts(file)?;
+    read_given(file, counts, words, bytes).map_err(|_| Ended::Less)
 }
 
 // The first n words, or all where there are fewer.
 pub fn words_to(words: &[u64], n: usize) -> &[u64]
     ensures { result.now ≡ take n words.now }
 {
-    if n < words.len() { &words[..n] } else { words }
+    &words[..n.min(words.len())]
 }

@@ -6,248 +6,202 @@
 // - the eight words of the answer, the words written in the report.
 #![tactic(auto)]
 
-use data_file::{Got, Read};
-use std::io;
+use data_file::Ended;
+use std::io::{self, Write};
+use table::Lent;
 
 // What stands in each word of a report before a judgement. No judge writes this number.
 const UNWRITTEN: u32 = 2779096485;
 
-const UNWRITTEN_WORD: u64 = 2779096485;
+// The same, as a word of a case.
+const UNWRITTEN_WORD: u64 = UNWRITTEN as u64;
 
-// Cases are counted by nine answers of OpenSSL, nine of Chrome, nine of Chrome on the policy's bundle.
-const NO_COUNT: usize = 27;
-
-// A case that agreed says where it is counted.
-#[derive(Clone, Copy)]
-enum Turn {
-    Agreed(usize),
-    End,
+// Room for a bundle: one word and one byte more than it may have, so that it can be too large.
+#[derive(Drop)]
+struct Room {
+    words: [u64; 8193],
+    bytes: [u8; 65537],
 }
 
-// ---- writing
+impl Room {
+    // Room that holds zeros alone.
+    fn new() -> Room {
+        Room {
+            words: [0; 8193],
+            bytes: [0; 65537],
+        }
+    }
 
-fn print<W: io::Write>(out: &mut W, text: &[u8]) -> io::Result<()> {
-    out.write_all(text)
-}
-
-fn print_number<W: io::Write>(out: &mut W, n: u64) -> io::Result<()> {
-    write!(out, " {n}")
-}
-
-fn print_difference<W: io::Write>(
-    out: &mut W,
-    what: &[u8],
-    at: usize,
-    is: u64,
-    due: u64,
-) -> io::Result<()> {
-    print(out, what)?;
-    print_number(out, at as u64)?;
-    print_number(out, is)?;
-    print_number(out, due)?;
-    print(out, b"\n")
-}
-
-fn print_policy<W: io::Write>(out: &mut W, which: usize) -> io::Result<()> {
-    match which {
-        0 => print(out, b"OpenSSL"),
-        1 => print(out, b"Chrome"),
-        _ => print(out, b"Chrome on the policy"),
+    // Reads a bundle to its start, and gives it as a judge takes it.
+    fn read<R: io::Read>(&mut self, file: &mut R) -> Result<Lent<'_>, Ended> {
+        let size = data_file::read_bundle(file, &mut self.words, &mut self.bytes)?;
+        Ok(Lent {
+            words: data_file::words_to(&self.words, size.words),
+            bytes: table::cut(&self.bytes, 0, size.bytes as u64),
+        })
     }
 }
 
-fn print_counts<W: io::Write>(out: &mut W, counts: &[u64; 27]) -> io::Result<()> {
-    for at in 0..27 {
-        print_policy(out, at / 9)?;
-        print_number(out, (at % 9) as u64)?;
-        print(out, b":")?;
-        print_number(out, counts[at])?;
-        print(out, b"\n")?;
+// A case: the policy, what is judged, the words lent for the report; the answer that is due, and the report behind it. The policy stays a number: each but 0 is judged as Chrome's, and what isn't 0 or 1 is not counted.
+#[derive(Drop)]
+struct Case<'a> {
+    policy: u64,
+    chain: Lent<'a>,
+    lists: Lent<'a>,
+    room: u64,
+    due: [u64; 1308],
+}
+
+// How many cases agreed, by the answer's number: OpenSSL's, Chrome's, Chrome's on the policy's bundle.
+#[derive(Default, Drop)]
+struct Counts {
+    openssl: [u64; 9],
+    chrome: [u64; 9],
+    lists: [u64; 9],
+}
+
+impl Counts {
+    // Counts an answer. One by OpenSSL's policy never speaks of the policy's bundle.
+    fn add(&mut self, policy: u64, answer: &[u64; 8]) {
+        let number = answer[0];
+        match (policy, answer[1]) {
+            (0, _) => count(&mut self.openssl, number),
+            (1, 0) => count(&mut self.chrome, number),
+            (1, 1) => count(&mut self.lists, number),
+            _ => {}
+        }
+    }
+
+    // Writes the three lists, each name before its counts.
+    fn print<W: Write>(&self, out: &mut W) -> io::Result<()> {
+        print_counts(out, "OpenSSL", &self.openssl)?;
+        print_counts(out, "Chrome", &self.chrome)?;
+        print_counts(out, "Chrome on the policy", &self.lists)
+    }
+}
+
+// Counts an answer's number, where it has one of the nine.
+fn count(counts: &mut [u64; 9], number: u64) {
+    if let Some(n) = counts.get_mut(number as usize) {
+        *n = n.saturating_add(1);
+    }
+}
+
+// Writes a line for each number.
+fn print_counts<W: Write>(out: &mut W, name: &str, counts: &[u64; 9]) -> io::Result<()> {
+    for (number, count) in counts.iter().enumerate() {
+        writeln!(out, "{name} {number}: {count}")?;
     }
     Ok(())
 }
 
-// ---- comparing
-
-// Where an answer is counted.
-fn counted_at(policy: u64, bundle: u64, number: u64) -> usize {
-    if 1 < policy {
-        return NO_COUNT;
-    }
-    if 1 < bundle {
-        return NO_COUNT;
-    }
-    if 8 < number {
-        return NO_COUNT;
-    }
-    (9 * (policy + bundle) + number) as usize
-}
-
-fn wide(x: u32) -> u64 {
-    x as u64
-}
-
-// Whether the answer is the one that is due. The first word that isn't is told.
-fn is_answer<W: io::Write>(out: &mut W, answer: &[u64; 8], due: &[u64]) -> io::Result<bool> {
-    for i in 0..8 {
-        let is = answer[i];
-        let should = table::word(due, i);
-        if is != should {
-            print_difference(out, b"answer: word, is, due:", i, is, should)?;
-            return Ok(false);
-        }
-    }
-    Ok(true)
-}
-
-// Whether the report is the one that is due, behind the answer. The first word that isn't is told.
-fn is_report<W: io::Write>(out: &mut W, report: &[u32], due: &[u64]) -> io::Result<bool> {
-    for i in 0..report.len() {
-        let is = wide(report[i]);
-        let should = table::word(due, 8 + i);
-        if is != should {
-            print_difference(out, b"report: word, is, due:", i, is, should)?;
-            return Ok(false);
-        }
-    }
-    Ok(true)
-}
-
-// ---- judging
-
-// The words of a report that are lent, all if there are fewer.
-fn lent(report: &mut [u32], room: usize) -> &mut [u32] {
-    if room < report.len() {
-        &mut report[..room]
-    } else {
-        report
-    }
-}
-
-fn judge(
-    policy: u64,
-    words: &[u64],
-    bytes: &[u8],
-    pwords: &[u64],
-    pbytes: &[u8],
-    report: &mut [u32],
-    answer: &mut [u64; 8],
-) {
-    if policy == 0 {
-        udrasmil::udrasmil_judge_openssl(words, bytes, report, answer);
-    } else {
-        udrasmil::udrasmil_judge_chrome(words, bytes, pwords, pbytes, report, answer);
-    }
-}
-
-// Judges with as many words lent as are asked for, and compares.
-fn replay<W: io::Write>(
+// Whether the words are those that are due. The first that isn't is told.
+fn is_due<T: Copy + Into<u64>, W: Write>(
     out: &mut W,
-    asked: &[u64; 3],
+    what: &str,
+    words: &[T],
     due: &[u64],
-    words: &[u64],
-    bytes: &[u8],
-    pwords: &[u64],
-    pbytes: &[u8],
-) -> io::Result<Turn> {
+) -> io::Result<bool> {
+    for (at, (word, should)) in words.iter().zip(due).enumerate() {
+        let is: u64 = (*word).into();
+        if is != *should {
+            writeln!(out, "{what}: word, is, due: {at} {is} {should}")?;
+            return Ok(false);
+        }
+    }
+    Ok(true)
+}
+
+// Judges with as many words lent as are asked for.
+fn judge(case: &Case, report: &mut [u32], answer: &mut [u64; 8]) {
+    let room = (case.room as usize).min(report.len());
+    let report = &mut report[..room];
+    let chain = case.chain;
+    let lists = case.lists;
+    if case.policy == 0 {
+        udrasmil::udrasmil_judge_openssl(chain.words, chain.bytes, report, answer);
+    } else {
+        udrasmil::udrasmil_judge_chrome(
+            chain.words,
+            chain.bytes,
+            lists.words,
+            lists.bytes,
+            report,
+            answer,
+        );
+    }
+}
+
+// Judges and compares: whether all is as it is due.
+fn replay<W: Write>(out: &mut W, case: &Case, counts: &mut Counts) -> io::Result<bool> {
     let mut answer = [UNWRITTEN_WORD; 8];
     let mut report = [UNWRITTEN; 1300];
-    let room = lent(&mut report, asked[1] as usize);
-    judge(asked[0], words, bytes, pwords, pbytes, room, &mut answer);
-    if !is_answer(out, &answer, due)? {
-        return Ok(Turn::End);
+    judge(case, &mut report, &mut answer);
+    if !is_due(out, "answer", &answer, &case.due[..8])? {
+        return Ok(false);
     }
-    if !is_report(out, &report, due)? {
-        return Ok(Turn::End);
+    if !is_due(out, "report", &report, &case.due[8..])? {
+        return Ok(false);
     }
-    Ok(Turn::Agreed(counted_at(asked[0], answer[1], answer[0])))
+    counts.add(case.policy, &answer);
+    Ok(true)
 }
 
-// ---- reading
-
-// Reads what is due. Words of the report that aren't written are due as they were.
-fn with_due<R: io::Read, W: io::Write>(
+// Reads a case. Words of the report that aren't written are due as they were.
+fn read_case<'a, R: io::Read>(
     file: &mut R,
-    out: &mut W,
-    words: &[u64],
-    bytes: &[u8],
-    pwords: &[u64],
-    pbytes: &[u8],
-) -> io::Result<Turn> {
+    chain: &'a mut Room,
+    lists: &'a mut Room,
+) -> Result<Case<'a>, Ended> {
+    let chain = chain.read(file)?;
+    let lists = lists.read(file)?;
     let mut asked = [0u64; 3];
+    data_file::read_words(file, &mut asked, 3)?;
+    let [policy, room, words] = asked;
     let mut due = [UNWRITTEN_WORD; 1308];
-    let Got::All = data_file::read_words(file, &mut asked, 3) else {
-        return Ok(Turn::End);
-    };
-    let Got::All = data_file::read_words(file, &mut due, asked[2] as usize) else {
-        return Ok(Turn::End);
-    };
-    replay(out, &asked, &due, words, bytes, pwords, pbytes)
+    data_file::read_words(file, &mut due, words as usize)?;
+    Ok(Case {
+        policy,
+        chain,
+        lists,
+        room,
+        due,
+    })
 }
 
-fn with_policy<R: io::Read, W: io::Write>(
+// Whether there is a next case and it agrees.
+fn replay_next<R: io::Read, W: Write>(
     file: &mut R,
     out: &mut W,
-    words: &[u64],
-    bytes: &[u8],
-) -> io::Result<Turn> {
-    let mut pwords = [0u64; 8193];
-    let mut pbytes = [0u8; 65537];
-    let Read::Is(size) = data_file::read_bundle(file, &mut pwords, &mut pbytes) else {
-        return Ok(Turn::End);
-    };
-    let all_pwords = data_file::words_to(&pwords, size.words);
-    let all_pbytes = table::cut(&pbytes, 0, size.bytes as u64);
-    with_due(file, out, words, bytes, all_pwords, all_pbytes)
-}
-
-// The arrays have one word and one byte more than a bundle may have, so that it can be too large.
-fn replay_next<R: io::Read, W: io::Write>(file: &mut R, out: &mut W) -> io::Result<Turn> {
-    let mut words = [0u64; 8193];
-    let mut bytes = [0u8; 65537];
-    let Read::Is(size) = data_file::read_bundle(file, &mut words, &mut bytes) else {
-        return Ok(Turn::End);
-    };
-    let all_words = data_file::words_to(&words, size.words);
-    let all_bytes = table::cut(&bytes, 0, size.bytes as u64);
-    with_policy(file, out, all_words, all_bytes)
-}
-
-fn count(counts: &mut [u64; 27], at: usize) {
-    if 27 <= at {
-        return;
-    }
-    let n = counts[at];
-    if n < u64::MAX {
-        counts[at] = n + 1;
+    counts: &mut Counts,
+) -> io::Result<bool> {
+    let mut chain = Room::new();
+    let mut lists = Room::new();
+    match read_case(file, &mut chain, &mut lists) {
+        Ok(case) => replay(out, &case, counts),
+        Err(_) => Ok(false),
     }
 }
 
 // A proved loop has to end, and nothing says that a file does: it counts up to a number that no run reaches.
-fn replay_all<R: io::Read, W: io::Write>(
+fn replay_all<R: io::Read, W: Write>(
     file: &mut R,
     out: &mut W,
-    counts: &mut [u64; 27],
+    counts: &mut Counts,
 ) -> io::Result<u64> {
-    let mut cases: u64 = 0;
-    while cases < u64::MAX {
-        let turn = replay_next(file, out)?;
-        match turn {
-            Turn::Agreed(at) => count(counts, at),
-            Turn::End => break,
+    for cases in 0..u64::MAX {
+        if !replay_next(file, out, counts)? {
+            return Ok(cases);
         }
-        cases += 1;
     }
-    Ok(cases)
+    Ok(u64::MAX)
 }
 
 fn main(rt: HostRuntime) -> io::Result<()> {
     let mut out = io::writer(&rt);
     let mut file = data_file::open(&rt, "cases")?;
-    let mut counts = [0u64; 27];
+    let mut counts = Counts::default();
     let cases = replay_all(&mut file, &mut out, &mut counts)?;
-    print_counts(&mut out, &counts)?;
-    print(&mut out, b"cases:")?;
-    print_number(&mut out, cases)?;
-    print(&mut out, b"\n")
+    counts.print(&mut out)?;
+    writeln!(out, "cases: {cases}")
 }

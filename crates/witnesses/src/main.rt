@@ -3,125 +3,103 @@
 // The file is a row of pairs of bundles as `data_file` reads them: a chain, and the policy by which Chrome's judge takes it.
 #![tactic(auto)]
 
-use data_file::Read;
-use std::io;
+use data_file::Ended;
+use std::{fmt, io};
+use table::Lent;
 
 // What stands in the lent report before a judgement, so that the output shows which words were written.
 const UNWRITTEN: u32 = 9;
 
-#[derive(Clone, Copy)]
-enum Turn {
-    Judged,
-    End,
+// Room for a bundle. A judge takes no larger one.
+#[derive(Drop)]
+struct Room {
+    words: [u64; 8192],
+    bytes: [u8; 65536],
 }
 
-// ---- writing
-
-fn print<W: io::Write>(out: &mut W, text: &[u8]) -> io::Result<()> {
-    out.write_all(text)
-}
-
-fn print_number<W: io::Write>(out: &mut W, n: u64) -> io::Result<()> {
-    write!(out, " {n}")
-}
-
-fn print_entry_word<W: io::Write>(out: &mut W, n: u32) -> io::Result<()> {
-    print_number(out, n as u64)
-}
-
-fn print_answer<W: io::Write>(out: &mut W, answer: &[u64; 8]) -> io::Result<()> {
-    print(out, b" answer")?;
-    for n in answer {
-        print_number(out, *n)?;
+impl Room {
+    // Room that holds zeros alone.
+    fn new() -> Room {
+        Room {
+            words: [0; 8192],
+            bytes: [0; 65536],
+        }
     }
-    print(out, b"\n")
-}
 
-fn print_report<W: io::Write>(out: &mut W, report: &[u32]) -> io::Result<()> {
-    print(out, b"report")?;
-    for n in report {
-        print_entry_word(out, *n)?;
+    // Reads a bundle to its start, and gives it as a judge takes it.
+    fn read<R: io::Read>(&mut self, file: &mut R) -> Result<Lent<'_>, Ended> {
+        let size = data_file::read_bundle(file, &mut self.words, &mut self.bytes)?;
+        Ok(Lent {
+            words: data_file::words_to(&self.words, size.words),
+            bytes: table::cut(&self.bytes, 0, size.bytes as u64),
+        })
     }
-    print(out, b"\n")
 }
 
-// ---- the judgements
-
-fn by_openssl<W: io::Write>(
+// Writes a line: a name, and the words behind it.
+fn print_words<T: fmt::Display, W: io::Write>(
     out: &mut W,
-    words: &[u64],
-    bytes: &[u8],
-    report: &mut [u32],
+    name: &str,
+    words: &[T],
 ) -> io::Result<()> {
-    let mut answer = [0u64; 8];
-    udrasmil::udrasmil_judge_openssl(words, bytes, report, &mut answer);
-    print(out, b"OpenSSL")?;
-    print_answer(out, &answer)?;
-    print_report(out, report)
+    write!(out, "{name}")?;
+    for n in words {
+        write!(out, " {n}")?;
+    }
+    writeln!(out)
 }
 
-fn by_chrome<W: io::Write>(
-    out: &mut W,
-    words: &[u64],
-    bytes: &[u8],
-    pwords: &[u64],
-    pbytes: &[u8],
-    report: &mut [u32],
-) -> io::Result<()> {
-    let mut answer = [0u64; 8];
-    udrasmil::udrasmil_judge_chrome(words, bytes, pwords, pbytes, report, &mut answer);
-    print(out, b"Chrome")?;
-    print_answer(out, &answer)?;
-    print_report(out, report)
-}
-
-// With room for four entries and two words, and then with room for one and two words.
+// Judges a chain by OpenSSL's policy and by Chrome's, each with the report lent.
 fn judge<W: io::Write>(
     out: &mut W,
-    words: &[u64],
-    bytes: &[u8],
-    pwords: &[u64],
-    pbytes: &[u8],
+    chain: Lent,
+    lists: Lent,
+    report: &mut [u32],
 ) -> io::Result<()> {
-    let mut report = [UNWRITTEN; 14];
-    by_openssl(out, words, bytes, &mut report)?;
-    report = [UNWRITTEN; 14];
-    by_chrome(out, words, bytes, pwords, pbytes, &mut report)?;
-    let mut tight = [UNWRITTEN; 5];
-    by_openssl(out, words, bytes, &mut tight)?;
-    tight = [UNWRITTEN; 5];
-    by_chrome(out, words, bytes, pwords, pbytes, &mut tight)
+    let mut answer = [0u64; 8];
+    report.fill(UNWRITTEN);
+    udrasmil::udrasmil_judge_openssl(chain.words, chain.bytes, report, &mut answer);
+    print_words(out, "OpenSSL answer", &answer)?;
+    print_words(out, "report", report)?;
+    report.fill(UNWRITTEN);
+    udrasmil::udrasmil_judge_chrome(
+        chain.words,
+        chain.bytes,
+        lists.words,
+        lists.bytes,
+        report,
+        &mut answer,
+    );
+    print_words(out, "Chrome answer", &answer)?;
+    print_words(out, "report", report)
 }
 
-fn judge_next<R: io::Read, W: io::Write>(file: &mut R, out: &mut W) -> io::Result<Turn> {
-    let mut words = [0u64; 8192];
-    let mut bytes = [0u8; 65536];
-    let Read::Is(chain) = data_file::read_bundle(file, &mut words, &mut bytes) else {
-        return Ok(Turn::End);
+// Reads a chain and the policy behind it.
+fn read_pair<'a, R: io::Read>(
+    file: &mut R,
+    chain: &'a mut Room,
+    lists: &'a mut Room,
+) -> Result<(Lent<'a>, Lent<'a>), Ended> {
+    Ok((chain.read(file)?, lists.read(file)?))
+}
+
+// Judges the next pair, where there is one: with room for four entries and two words, and then with room for one and two words.
+fn judge_next<R: io::Read, W: io::Write>(file: &mut R, out: &mut W) -> io::Result<bool> {
+    let mut chain = Room::new();
+    let mut lists = Room::new();
+    let Ok((chain, lists)) = read_pair(file, &mut chain, &mut lists) else {
+        return Ok(false);
     };
-    let mut pwords = [0u64; 8192];
-    let mut pbytes = [0u8; 65536];
-    let Read::Is(policy) = data_file::read_bundle(file, &mut pwords, &mut pbytes) else {
-        return Ok(Turn::End);
-    };
-    judge(
-        out,
-        data_file::words_to(&words, chain.words),
-        table::cut(&bytes, 0, chain.bytes as u64),
-        data_file::words_to(&pwords, policy.words),
-        table::cut(&pbytes, 0, policy.bytes as u64),
-    )?;
-    Ok(Turn::Judged)
+    judge(out, chain, lists, &mut [0; 14])?;
+    judge(out, chain, lists, &mut [0; 5])?;
+    Ok(true)
 }
 
 // A proved loop has to end, and nothing says that a file does: it counts up to a number that no run reaches.
 fn judge_all<R: io::Read, W: io::Write>(file: &mut R, out: &mut W) -> io::Result<()> {
-    let mut n: u64 = 0;
-    while n < u64::MAX {
-        let turn = judge_next(file, out)?;
-        match turn {
-            Turn::Judged => n += 1,
-            Turn::End => break,
+    for _ in 0..u64::MAX {
+        if !judge_next(file, out)? {
+            break;
         }
     }
     Ok(())
