@@ -6,7 +6,7 @@ pub mod row;
 ghost use Rattle.std.specs.Prelude.{◌≡◌};
 ghost use Rattle.model.specs.Decode.{cert_word, cert_range, signed_of};
 
-use model::chain::{CERTS, CertRow};
+use model::chain::{CERTS, CertRow, rows_named};
 use table::{Range, Section};
 
 // Word j of a certificate.
@@ -20,8 +20,7 @@ pub fn cert_word(words: &[u64], c: CertRow, j: u64) -> u64
 pub fn cert_range(words: &[u64], c: CertRow, j: u32, s: Section) -> Range
     ensures { result ≡ cert_range words.now c.0 j s }
 {
-    let p = table::two_fields(words, CERTS, c.0, j as u64);
-    model::chain::rows_in(words, s, p.first, p.second)
+    rows_named(words, CERTS, c.0, j as u64, s)
 }
 
 // The number that a word is in two's complement.

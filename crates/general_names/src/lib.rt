@@ -4,8 +4,8 @@
 ghost use Rattle.std.specs.Prelude.{◌≡◌};
 ghost use Rattle.model.specs.Decode.{kind_at, name_text, name_range};
 
-use model::chain::{NAMES, NameNo, RDNS};
-use table::{Lent, Range, StringNo};
+use model::chain::{NAMES, NameNo, RDNS, rows_named};
+use table::{Lent, Range};
 
 pub fn kind(words: &[u64], n: NameNo) -> u64
     ensures { result ≡ kind_at words.now n.0 }
@@ -17,13 +17,12 @@ pub fn kind(words: &[u64], n: NameNo) -> u64
 pub fn name_text<'a>(chain: Lent<'a>, n: NameNo) -> &'a [u8]
     ensures { result.now ≡ name_text chain.entry.words.now chain.entry.bytes.now n.0 }
 {
-    table::string(chain, StringNo(table::field(chain.words, NAMES, n.0, 1)))
+    table::string_named(chain, NAMES, n.0, 1)
 }
 
 // A name's x and y as a range of RDNs.
 pub fn name_range(words: &[u64], n: NameNo) -> Range
     ensures { result ≡ name_range words.now n.0 }
 {
-    let p = table::two_fields(words, NAMES, n.0, 1);
-    model::chain::rows_in(words, RDNS, p.first, p.second)
+    rows_named(words, NAMES, n.0, 1, RDNS)
 }

@@ -1,5 +1,6 @@
 // The chain bundle: words of its header, its sections, and the numbers of their rows.
-ghost use Rattle.std.specs.Prelude.{◌≡◌};
+ghost use Rattle.std.specs.Prelude.{◌≡◌, ◌+◌};
+ghost use Rattle.table.specs.Table.{field_of};
 ghost use Rattle.model.specs.Decode.{rows_in, optional_string, task_of};
 ghost use Rattle.model.specs.Shown.{Shows};
 
@@ -52,6 +53,14 @@ pub fn rows_in(words: &[u64], s: Section, first: u64, n: u64) -> Range
     ensures { result ≡ rows_in words.now s first n }
 {
     table::clip(first, n, table::count(words, s))
+}
+
+// The rows of a section that words j and j + 1 of a row of another name: the first, and how many.
+pub fn rows_named(words: &[u64], s: Section, n: u64, j: u64, of: Section) -> Range
+    ensures { result ≡ rows_in words.now of (field_of words.now s n j) (field_of words.now s n (j + 1)) }
+{
+    let p = table::two_fields(words, s, n, j);
+    rows_in(words, of, p.first, p.second)
 }
 
 // The string that a word gives: none where it is 0, and else the one whose number is one less.

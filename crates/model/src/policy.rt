@@ -2,7 +2,7 @@
 ghost use Rattle.std.specs.Prelude.{◌≡◌};
 ghost use Rattle.model.specs.Decode.{entry_at, list_range};
 
-use table::{Lent, Range, Section, StringNo};
+use table::{Lent, Range, Section};
 
 pub const ENTRIES: Section = Section { count: 3, size: 1 };
 
@@ -20,7 +20,7 @@ pub struct EntryNo(pub u64);
 pub fn entry<'a>(lists: Lent<'a>, n: EntryNo) -> &'a [u8]
     ensures { result.now ≡ entry_at lists.entry.words.now lists.entry.bytes.now n.0 }
 {
-    table::string(lists, StringNo(table::field(lists.words, ENTRIES, n.0, 0)))
+    table::string_named(lists, ENTRIES, n.0, 0)
 }
 
 // The entries of a list.

@@ -4,33 +4,26 @@
 ghost use Rattle.std.specs.Prelude.{◌≡◌};
 ghost use Rattle.model.specs.Decode.{oid_at, value_at, rdn_range, usage_word};
 
-use model::chain::{ATTRIBUTES, AttributeNo, RDNS, RdnNo, USAGES, UsageNo};
-use table::{Lent, Range, StringNo};
+use model::chain::{ATTRIBUTES, AttributeNo, RDNS, RdnNo, USAGES, UsageNo, rows_named};
+use table::{Lent, Range};
 
 pub fn oid<'a>(chain: Lent<'a>, a: AttributeNo) -> &'a [u8]
     ensures { result.now ≡ oid_at chain.entry.words.now chain.entry.bytes.now a.0 }
 {
-    table::string(
-        chain,
-        StringNo(table::field(chain.words, ATTRIBUTES, a.0, 0)),
-    )
+    table::string_named(chain, ATTRIBUTES, a.0, 0)
 }
 
 pub fn value<'a>(chain: Lent<'a>, a: AttributeNo) -> &'a [u8]
     ensures { result.now ≡ value_at chain.entry.words.now chain.entry.bytes.now a.0 }
 {
-    table::string(
-        chain,
-        StringNo(table::field(chain.words, ATTRIBUTES, a.0, 1)),
-    )
+    table::string_named(chain, ATTRIBUTES, a.0, 1)
 }
 
 // The attributes of an RDN.
 pub fn rdn(words: &[u64], n: RdnNo) -> Range
     ensures { result ≡ rdn_range words.now n.0 }
 {
-    let p = table::two_fields(words, RDNS, n.0, 0);
-    model::chain::rows_in(words, ATTRIBUTES, p.first, p.second)
+    rows_named(words, RDNS, n.0, 0, ATTRIBUTES)
 }
 
 pub fn usage(words: &[u64], n: UsageNo) -> u64

@@ -147,6 +147,13 @@ pub fn string<'a>(lent: Lent<'a>, s: StringNo) -> &'a [u8]
     cut(lent.bytes, p.first, p.second)
 }
 
+// The string that word j of row n of a section names.
+pub fn string_named<'a>(lent: Lent<'a>, s: Section, n: u64, j: u64) -> &'a [u8]
+    ensures { result.now ≡ string_of lent.entry.words.now lent.entry.bytes.now (field_of lent.entry.words.now s n j) }
+{
+    string(lent, StringNo(field(lent.words, s, n, j)))
+}
+
 // The rows of a range that its section has.
 pub fn clip(first: u64, n: u64, rows: u64) -> Range
     ensures { result ≡ range_of first n rows }
