@@ -14,8 +14,9 @@ use Rattle.laws.specs.Lists.{pick, Least}
 use Rattle.laws.proofs.Meaning.{least_is}
 use Rattle.laws.proofs.Tests.{and_left, and_right, or_left, or_right}
 use Rattle.table.specs.declared.Section.{Section}
-use Rattle.sections.specs.declared.Found.{Found}
-use Rattle.sections.specs.declared.Found.TheVariants.{Clear, At}
+use Rattle.std.specs.declared.option.Option.{Option}
+use Rattle.std.specs.declared.option.Option.TheVariants.{Some, None}
+use Rattle.sections.specs.declared.Fault.{Fault}
 use Rattle.sections.specs.Found.{earlier_of, found_each}
 use Rattle.sections.specs.Placed.{misplaced, found_section}
 use Rattle.row_tests.specs.Wrong.{wrong}
@@ -26,9 +27,9 @@ use Rattle.sound.specs.Answer.{Before, First}
 use Rattle.sound.proofs.Tables.{InRows, InLine}
 
 -- what was found is the first of the faults F
-abbrev pub FirstOf : (ℕ → ℕ → Type 0) → Found → Type 0
-FirstOf F Clear = (n p : ℕ) → F n p → ⊥
-FirstOf F (At n p) = First F n p
+abbrev pub FirstOf : (ℕ → ℕ → Type 0) → Option Fault → Type 0
+FirstOf F None = (n p : ℕ) → F n p → ⊥
+FirstOf F (Some f) = First F f.number f.word
 
 -- ---- the order of faults
 before_trans : (a c m q n p : ℕ) → Before a c m q → Before m q n p → Before a c n p
@@ -57,30 +58,30 @@ module _ (m q n p : ℕ) (h : (ltb m n || (eqb m n && ltb q p)) ≡ false) where
 
 -- ---- two faults: the earlier is the first of both kinds
 module _ (F G : ℕ → ℕ → Type 0) where
-  pub earlier_first : (f g : Found) → FirstOf F f → FirstOf G g → FirstOf (λ n p. F n p ⊎ G n p) (earlier_of f g)
-  earlier_first Clear Clear a b = λ n p. ⊎_elim (a n p) (b n p)
-  earlier_first Clear (At m q) a b = record { due = inr b.due; before = λ k c o. ⊎_elim (a k c) (b.before k c o) }
-  earlier_first (At n p) Clear a b = record { due = inl a.due; before = λ k c o. ⊎_elim (a.before k c o) (b k c) }
-  earlier_first (At n p) (At m q) a b = go (ltb m n || (eqb m n && ltb q p)) refl where
-    go : (t : Bool) → (ltb m n || (eqb m n && ltb q p)) ≡ t → FirstOf (λ n p. F n p ⊎ G n p) (pick t (At m q) (At n p))
-    go true e = record { due = inr b.due; before = λ k c o. ⊎_elim (a.before k c (before_trans k c m q n p o (earlier_true m q n p e))) (b.before k c o) }
-    go false e = record { due = inl a.due; before = λ k c o. ⊎_elim (a.before k c o) (b.before k c (before_other k c m q n p o (earlier_low m q n p e) (earlier_same m q n p e))) }
+  pub earlier_first : (f g : Option Fault) → FirstOf F f → FirstOf G g → FirstOf (λ n p. F n p ⊎ G n p) (earlier_of f g)
+  earlier_first None None a b = λ n p. ⊎_elim (a n p) (b n p)
+  earlier_first None (Some g) a b = record { due = inr b.due; before = λ k c o. ⊎_elim (a k c) (b.before k c o) }
+  earlier_first (Some f) None a b = record { due = inl a.due; before = λ k c o. ⊎_elim (a.before k c o) (b k c) }
+  earlier_first (Some f) (Some g) a b = go (ltb g.number f.number || (eqb g.number f.number && ltb g.word f.word)) refl where
+    go : (t : Bool) → (ltb g.number f.number || (eqb g.number f.number && ltb g.word f.word)) ≡ t → FirstOf (λ n p. F n p ⊎ G n p) (pick t (Some g) (Some f))
+    go true e = record { due = inr b.due; before = λ k c o. ⊎_elim (a.before k c (before_trans k c g.number g.word f.number f.word o (earlier_true g.number g.word f.number f.word e))) (b.before k c o) }
+    go false e = record { due = inl a.due; before = λ k c o. ⊎_elim (a.before k c o) (b.before k c (before_other k c g.number g.word f.number f.word o (earlier_low g.number g.word f.number f.word e) (earlier_same g.number g.word f.number f.word e))) }
 
 -- faults that are the same have the same first
-pub first_same : (F G : ℕ → ℕ → Type 0) → ((n p : ℕ) → F n p → G n p) → ((n p : ℕ) → G n p → F n p) → (f : Found) → FirstOf F f → FirstOf G f
-first_same F G t u Clear a = λ n p g. a n p (u n p g)
-first_same F G t u (At m q) a = record { due = t m q a.due; before = λ n p o g. a.before n p o (u n p g) }
+pub first_same : (F G : ℕ → ℕ → Type 0) → ((n p : ℕ) → F n p → G n p) → ((n p : ℕ) → G n p → F n p) → (f : Option Fault) → FirstOf F f → FirstOf G f
+first_same F G t u None a = λ n p g. a n p (u n p g)
+first_same F G t u (Some g) a = record { due = t g.number g.word a.due; before = λ n p o h. a.before n p o (u n p h) }
 
 -- ---- a list of things to look at, each with faults of its own
-module _ {A : Type 0} (G : A → ℕ → ℕ → Type 0) (found : A → Found) where
-  abbrev pub Some : List A → ℕ → ℕ → Type 0
-  Some xs n p = (x : A) × Memᴰ x xs × G x n p
+module _ {A : Type 0} (G : A → ℕ → ℕ → Type 0) (found : A → Option Fault) where
+  abbrev pub SomeOf : List A → ℕ → ℕ → Type 0
+  SomeOf xs n p = (x : A) × Memᴰ x xs × G x n p
 
-  pub all_first : (F : ℕ → ℕ → Type 0) (f : Found) (xs : List A) → ((x : A) → Memᴰ x xs → FirstOf (G x) (found x)) → FirstOf F f → FirstOf (λ n p. F n p ⊎ Some xs n p) (found_each found f xs)
+  pub all_first : (F : ℕ → ℕ → Type 0) (f : Option Fault) (xs : List A) → ((x : A) → Memᴰ x xs → FirstOf (G x) (found x)) → FirstOf F f → FirstOf (λ n p. F n p ⊎ SomeOf xs n p) (found_each found f xs)
   unfolding found_each
-  all_first F f [] each a = first_same F (λ n p. F n p ⊎ Some [] n p) (λ n p h. inl h) (λ n p. ⊎_elim (λ h. h) (λ s. absurd (Memᴰ.not-nil s.1))) f a
+  all_first F f [] each a = first_same F (λ n p. F n p ⊎ SomeOf [] n p) (λ n p h. inl h) (λ n p. ⊎_elim (λ h. h) (λ s. absurd (Memᴰ.not-nil s.1))) f a
   all_first F f (x ∷ xs) each a =
-      first_same (λ n p. (F n p ⊎ G x n p) ⊎ Some xs n p) (λ n p. F n p ⊎ Some (x ∷ xs) n p)
+      first_same (λ n p. (F n p ⊎ G x n p) ⊎ SomeOf xs n p) (λ n p. F n p ⊎ SomeOf (x ∷ xs) n p)
       (λ n p. ⊎_elim (⊎_elim inl (λ g. inr (x, Memᴰ.head refl, g))) (λ s. inr (s.0, Memᴰ.tail s.1, s.2)))
       (λ n p. ⊎_elim (λ h. inl (inl h)) (λ s. ⊎_elim (λ e. inl (inr (rw (← e) s.2))) (λ t. inr (s.0, t, s.2)) (Memᴰ.cases_cons s.1)))
       (found_each found (earlier_of f (found x)) xs)
@@ -98,7 +99,7 @@ module _ (w b : List ℕ) (l : Line) where
   line_first : (m : ℕ) → Least (λ i. wrong l.test w b (row_at (rows_of w l.block) i) l.word) 0 (rows_of w l.block).count m → FirstOf LineFault (found_at l (rows_of w l.block) m)
   unfolding found_at InRows
   line_first m s = go (ltb m (rows_of w l.block).count) refl where
-    go : (t : Bool) → ltb m (rows_of w l.block).count ≡ t → FirstOf LineFault (pick t (At l.number (row_at (rows_of w l.block) m + l.word)) Clear)
+    go : (t : Bool) → ltb m (rows_of w l.block).count ≡ t → FirstOf LineFault (pick t (Some (record { number = l.number; word = row_at (rows_of w l.block) m + l.word })) None)
     go true e =
         let h : m < (rows_of w l.block).count = ltb-true _ _ e in
         record {
@@ -122,6 +123,6 @@ module _ (header : ℕ) (w : List ℕ) (s : Section) where
   pub section_first : FirstOf SectionFault (found_section header w s)
   unfolding found_section
   section_first = go (misplaced header w s) refl where
-    go : (t : Bool) → misplaced header w s ≡ t → FirstOf SectionFault (pick t (At 4 s.count) Clear)
+    go : (t : Bool) → misplaced header w s ≡ t → FirstOf SectionFault (pick t (Some (record { number = 4; word = s.count })) None)
     go true e = record { due = (refl, refl, e); before = λ n p o f. ⊎_elim (λ a. omega (arith, f.0)) (λ a. omega (arith, a.1, f.1)) o }
     go false e = λ n p f. true≢false (sym f.2 ∙ e)

@@ -4,12 +4,12 @@
 ghost use Rattle.std.specs.Prelude.{◌≡◌, not, eqb, ltb};
 ghost use Rattle.table.specs.Table.{word as word_of, count_of};
 ghost use Rattle.model.specs.Sections.{certs};
-ghost use Rattle.sound.specs.Answer.{ChainVerdict, PolicyVerdict};
+ghost use Rattle.sound.specs.Answer.{answer_of, first_word_fault, ChainVerdict, PolicyVerdict};
 ghost use Rattle.sound.specs.Limits.{too_large, most_certs, edition};
 
 use model::chain::CERTS;
-use sections::{CHAIN_HEADER, Found, POLICY_HEADER};
-use table::{CertPos, word};
+use sections::{CHAIN_HEADER, Fault, POLICY_HEADER};
+use table::{CertPos, Lent, word};
 
 const MOST_WORDS: usize = 8192;
 
@@ -36,18 +36,20 @@ pub enum Place {
     Pair(CertPos, CertPos),
 }
 
-// A bundle is sound, or refused by a number.
+// Why a bundle is refused: the refusal's number, as a fault has it, the bundle, and where.
 #[derive(Clone, Copy)]
-pub enum Checked {
-    Sound,
-    Refused(u64, Bundle, Place),
+pub struct Refusal {
+    pub number: u64,
+    pub bundle: Bundle,
+    pub place: Place,
 }
 
 // Whether the header is not whole, or there are too many words or bytes.
-fn is_too_large(words: &[u64], bytes: &[u8], header: usize) -> bool
-    ensures { result ≡ too_large header words.now bytes.now }
+fn is_too_large(lent: Lent, header: usize) -> bool
+    ensures { result ≡ too_large header lent.entry.words.now lent.entry.bytes.now }
 {
-    (words.len() < header) | (MOST_WORDS < words.len()) | (MOST_BYTES < bytes.len())
+    let n = lent.words.len();
+    (n < header) | (MOST_WORDS < n) | (MOST_BYTES < lent.bytes.len())
 }
 
 // Whether the header counts too many certificates.
@@ -64,54 +66,52 @@ fn has_other_edition(words: &[u64]) -> bool
     word(words, 0) != EDITION
 }
 
-// The refusal of a bundle at one of its words.
-fn refused(n: u64, bundle: Bundle, p: usize) -> Checked
-    ensures { result ≡ Checked.Refused n bundle (Place.Word p) }
+// What is said of a bundle of which this was found: nothing, or the refusal at a word.
+fn clear_of(bundle: Bundle, f: Option<Fault>) -> Result<(), Refusal>
+    ensures { result ≡ answer_of bundle f }
 {
-    Checked::Refused(n, bundle, Place::Word(p))
+    match f {
+        None => Ok(()),
+        Some(f) => Err(Refusal {
+            number: f.number,
+            bundle,
+            place: Place::Word(f.word),
+        }),
+    }
+}
+
+// Refusals 2 and 3, both at word 0.
+fn first_word_fault(words: &[u64], is_too_large: bool) -> Option<Fault>
+    ensures { result ≡ first_word_fault words.now is_too_large }
+{
+    if is_too_large {
+        return Some(Fault { number: 2, word: 0 });
+    }
+    if has_other_edition(words) {
+        return Some(Fault { number: 3, word: 0 });
+    }
+    None
 }
 
 // Whether a chain bundle is sound, and else the refusal: the lowest number, then the lowest word.
-pub fn check_chain(words: &[u64], bytes: &[u8]) -> Checked
-    ensures { ChainVerdict words.now bytes.now result }
+pub fn check_chain(chain: Lent) -> Result<(), Refusal>
+    ensures { ChainVerdict chain.entry.words.now chain.entry.bytes.now result }
 {
-    if is_too_large(words, bytes, CHAIN_HEADER) | has_too_many(words) {
-        return refused(2, Bundle::Chain, 0);
+    let is_too_large = is_too_large(chain, CHAIN_HEADER) | has_too_many(chain.words);
+    clear_of(Bundle::Chain, first_word_fault(chain.words, is_too_large))?;
+    if quick::chain_fine(chain) {
+        return Ok(());
     }
-    if has_other_edition(words) {
-        return refused(3, Bundle::Chain, 0);
-    }
-    if quick::chain_fine(words, bytes) {
-        return Checked::Sound;
-    }
-    let s = sections::chain_misplaced(words);
-    if let Found::At(n, p) = s {
-        return refused(n, Bundle::Chain, p);
-    }
-    let f = lines::chain_wrong(words, bytes);
-    match f {
-        Found::Clear => Checked::Sound,
-        Found::At(n, p) => refused(n, Bundle::Chain, p),
-    }
+    clear_of(Bundle::Chain, sections::chain_misplaced(chain.words))?;
+    clear_of(Bundle::Chain, lines::chain_wrong(chain))
 }
 
 // Whether a policy bundle is sound, and else the refusal.
-pub fn check_policy(words: &[u64], bytes: &[u8]) -> Checked
-    ensures { PolicyVerdict words.now bytes.now result }
+pub fn check_policy(lists: Lent) -> Result<(), Refusal>
+    ensures { PolicyVerdict lists.entry.words.now lists.entry.bytes.now result }
 {
-    if is_too_large(words, bytes, POLICY_HEADER) {
-        return refused(2, Bundle::Policy, 0);
-    }
-    if has_other_edition(words) {
-        return refused(3, Bundle::Policy, 0);
-    }
-    let s = sections::policy_misplaced(words);
-    if let Found::At(n, p) = s {
-        return refused(n, Bundle::Policy, p);
-    }
-    let f = lines::policy_wrong(words, bytes);
-    match f {
-        Found::Clear => Checked::Sound,
-        Found::At(n, p) => refused(n, Bundle::Policy, p),
-    }
+    let is_too_large = is_too_large(lists, POLICY_HEADER);
+    clear_of(Bundle::Policy, first_word_fault(lists.words, is_too_large))?;
+    clear_of(Bundle::Policy, sections::policy_misplaced(lists.words))?;
+    clear_of(Bundle::Policy, lines::policy_wrong(lists))
 }
