@@ -3,7 +3,6 @@ ghost use Rattle.std.specs.Prelude.{◌≡◌};
 ghost use Rattle.model.specs.Decode.{cert_at};
 ghost use Rattle.constrained_c.specs.Rule14.{check_name_constraints};
 
-use certs::row::NC;
 use constraints::NameConstraints;
 use covering_dns::Covering;
 use model::chain::CertRow;
@@ -13,12 +12,11 @@ use table::Lent;
 pub fn check_name_constraints(chain: Lent, i: CertRow, j: CertRow) -> bool
     ensures { result ≡ check_name_constraints (cert_at chain.entry.words.now chain.entry.bytes.now i.0) (cert_at chain.entry.words.now chain.entry.bytes.now j.0) }
 {
-    if certs::cert_word(chain.words, i, NC) == 0 {
-        return true;
+    match NameConstraints::of(chain.words, i) {
+        None => true,
+        Some(nc) => {
+            constraints::check_subject(chain, nc, j)
+                && constraints::check_san_constraints(chain, nc, Covering::Cleaned, j)
+        }
     }
-    let nc = NameConstraints::of(chain.words, i);
-    if constraints::check_subject(chain, nc, j) {
-        return constraints::check_san_constraints(chain, nc, Covering::Cleaned, j);
-    }
-    false
 }

@@ -4,7 +4,6 @@ ghost use Rattle.laws.specs.Lists.{all};
 ghost use Rattle.model.specs.Decode.{general_at, generals_in, cert_at};
 ghost use Rattle.constrained_c.specs.Rule16.{valid_if_dns, valid_dns_name_constraints};
 
-use certs::row::NC;
 use constraints::NameConstraints;
 use model::chain::{CertRow, NameNo};
 use sans::Kind;
@@ -31,12 +30,8 @@ fn all_valid(chain: Lent, r: Range) -> bool
 pub fn valid_dns_name_constraints(chain: Lent, c: CertRow) -> bool
     ensures { result ≡ valid_dns_name_constraints (cert_at chain.entry.words.now chain.entry.bytes.now c.0) }
 {
-    if certs::cert_word(chain.words, c, NC) == 0 {
-        return true;
+    match NameConstraints::of(chain.words, c) {
+        None => true,
+        Some(nc) => all_valid(chain, nc.permitted) && all_valid(chain, nc.excluded),
     }
-    let nc = NameConstraints::of(chain.words, c);
-    if all_valid(chain, nc.permitted) {
-        return all_valid(chain, nc.excluded);
-    }
-    false
 }

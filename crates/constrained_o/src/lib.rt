@@ -10,7 +10,7 @@ ghost use Rattle.covering_dns.specs.declared.Covering.TheVariants.{Lowered};
 ghost use Rattle.constraints.specs.Keeps.{self_issued, text_passes, check_common_name_constraints, check_name_constraints_helper};
 ghost use Rattle.constrained_o.specs.Rule14.{check_name_constraints};
 
-use certs::row::{ISSUER, NC, SUBJECT};
+use certs::row::{ISSUER, SUBJECT};
 use constraints::NameConstraints;
 use covering_dns::Covering;
 use model::chain::{AttributeNo, CertRow, RDNS, RdnNo};
@@ -98,11 +98,8 @@ fn check_name_constraints_helper(chain: Lent, nc: NameConstraints, c: CertRow, l
 pub fn check_name_constraints(chain: Lent, i: CertRow, j: CertRow, leaf: bool) -> bool
     ensures { result ≡ check_name_constraints leaf (cert_at chain.entry.words.now chain.entry.bytes.now i.0) (cert_at chain.entry.words.now chain.entry.bytes.now j.0) }
 {
-    if certs::cert_word(chain.words, i, NC) == 0 {
-        return true;
+    match NameConstraints::of(chain.words, i) {
+        None => true,
+        Some(nc) => self_issued(chain, j) || check_name_constraints_helper(chain, nc, j, leaf),
     }
-    if self_issued(chain, j) {
-        return true;
-    }
-    check_name_constraints_helper(chain, NameConstraints::of(chain.words, i), j, leaf)
 }

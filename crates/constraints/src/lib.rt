@@ -7,12 +7,13 @@ ghost use Rattle.laws.specs.Optional.{if_there};
 ghost use Rattle.text.specs.Texts.{lowered};
 ghost use Rattle.table.specs.declared.Range.{Range};
 ghost use Rattle.model.specs.Model.{GeneralName};
-ghost use Rattle.model.specs.Decode.{name_in, general_at, generals_in, cert_at};
+ghost use Rattle.model.specs.Decode.{cert_word, name_in, general_at, generals_in, cert_at};
+ghost use Rattle.model.specs.Shown.{ShowsPart};
 ghost use Rattle.constraints.specs.Ranges.{constraints_of};
 ghost use Rattle.constraints.specs.Match.{allowed, check_dns_name_constraints, check_directory_name_constraints, check_ip_addr_name_constraints, asked_name, nc_match};
 ghost use Rattle.constraints.specs.Keeps.{check_subject, check_san_constraints};
 
-use certs::row::{EXCLUDED, PERMITTED, SAN, SAN_NAMES, SUBJECT};
+use certs::row::{EXCLUDED, NC, PERMITTED, SUBJECT};
 use covering_dns::Covering;
 use model::chain::{CertRow, NAMES, NameNo, RDNS};
 use sans::Kind;
@@ -26,14 +27,17 @@ pub struct NameConstraints {
 }
 
 impl NameConstraints {
-    // The constraints of a certificate.
-    pub fn of(words: &[u64], c: CertRow) -> Self
-        ensures { result ≡ constraints_of words.now c.0 }
+    // The constraints of a certificate, if it has some.
+    pub fn of(words: &[u64], c: CertRow) -> Option<Self>
+        ensures { ShowsPart result (cert_word words.now c.0 33) (constraints_of words.now c.0) }
     {
-        NameConstraints {
+        if certs::cert_word(words, c, NC) == 0 {
+            return None;
+        }
+        Some(NameConstraints {
             permitted: certs::cert_range(words, c, PERMITTED, NAMES),
             excluded: certs::cert_range(words, c, EXCLUDED, NAMES),
-        }
+        })
     }
 }
 
@@ -128,15 +132,10 @@ fn names_pass(chain: Lent, nc: NameConstraints, v: Covering, r: Range) -> bool
 pub fn check_san_constraints(chain: Lent, nc: NameConstraints, v: Covering, c: CertRow) -> bool
     ensures { result ≡ if_there (check_san_constraints v (generals_in chain.entry.words.now chain.entry.bytes.now nc.permitted) (generals_in chain.entry.words.now chain.entry.bytes.now nc.excluded)) (cert_at chain.entry.words.now chain.entry.bytes.now c.0).san }
 {
-    if certs::cert_word(chain.words, c, SAN) == 0 {
-        return true;
+    match sans::san(chain.words, c) {
+        None => true,
+        Some(names) => names_pass(chain, nc, v, names),
     }
-    names_pass(
-        chain,
-        nc,
-        v,
-        certs::cert_range(chain.words, c, SAN_NAMES, NAMES),
-    )
 }
 
 // Whether a subject, as a range of RDNs, is empty or passes.

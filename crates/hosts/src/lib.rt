@@ -10,8 +10,8 @@ ghost use Rattle.names.specs.Names.{rdn_in};
 ghost use Rattle.sans.specs.Sans.{dns_and, common_and, some_common};
 ghost use Rattle.hosts.specs.Hostname.{names_host, check_hostname, host_named};
 
-use certs::row::{SAN, SAN_NAMES, SUBJECT};
-use model::chain::{AttributeNo, CertRow, NAMES, NameNo, RDNS, RdnNo};
+use certs::row::SUBJECT;
+use model::chain::{AttributeNo, CertRow, NameNo, RDNS, RdnNo};
 use sans::Kind;
 use table::{Lent, Range};
 use text::Letters;
@@ -45,14 +45,10 @@ fn any_dns_names(chain: Lent, r: Range, host: &[u8]) -> bool
 fn san_names(chain: Lent, c: CertRow, host: &[u8]) -> bool
     ensures { result ≡ there_and (λ (s : San). any (dns_and (names_host host.now)) s.names) (cert_at chain.entry.words.now chain.entry.bytes.now c.0).san }
 {
-    if certs::cert_word(chain.words, c, SAN) == 0 {
-        return false;
+    match sans::san(chain.words, c) {
+        None => false,
+        Some(names) => any_dns_names(chain, names, host),
     }
-    any_dns_names(
-        chain,
-        certs::cert_range(chain.words, c, SAN_NAMES, NAMES),
-        host,
-    )
 }
 
 // Whether an attribute is a common name that names the host.

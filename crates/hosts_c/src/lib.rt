@@ -6,12 +6,11 @@ ghost use Rattle.laws.specs.Lists.{any};
 ghost use Rattle.laws.specs.Optional.{there_and};
 ghost use Rattle.text.specs.Texts.{lowered};
 ghost use Rattle.model.specs.Model.{San};
-ghost use Rattle.model.specs.Decode.{general_at, generals_in, san_at, cert_at, task_of, lists_of};
+ghost use Rattle.model.specs.Decode.{general_at, generals_in, cert_at, task_of, lists_of};
 ghost use Rattle.sans.specs.Sans.{dns_and};
 ghost use Rattle.hosts_c.specs.SanHost.{has_public_suffix, names_clean, match_san, host_named};
 
-use certs::row::{SAN, SAN_NAMES};
-use model::chain::{CertRow, NAMES, NameNo};
+use model::chain::{CertRow, NameNo};
 use sans::Kind;
 use table::{Lent, Range};
 use text::Letters;
@@ -51,26 +50,21 @@ fn has_public_suffix(lists: Lent, name: &[u8]) -> bool
     lists::matches(lists, lists::PUBLIC_SUFFIX, name)
 }
 
-// Whether some DNS name of a certificate's SAN is one for the lowered host. The list is searched once, for all names.
-fn match_san(chain: Lent, lists: Lent, c: CertRow, host: &[u8]) -> bool
-    ensures { result ≡ match_san (lists_of lists.entry.words.now lists.entry.bytes.now) (san_at chain.entry.words.now chain.entry.bytes.now c.0) (lowered host.now) }
+// Whether some name of a SAN, as a range of names, is one for the lowered host. The list is searched once, for all names.
+fn match_san(chain: Lent, lists: Lent, names: Range, host: &[u8]) -> bool
+    ensures { result ≡ any (dns_and (names_clean (has_public_suffix (lists_of lists.entry.words.now lists.entry.bytes.now) (lowered host.now)) (lowered host.now))) (generals_in chain.entry.words.now chain.entry.bytes.now names) }
 {
-    any_dns_names(
-        chain,
-        certs::cert_range(chain.words, c, SAN_NAMES, NAMES),
-        has_public_suffix(lists, host),
-        host,
-    )
+    any_dns_names(chain, names, has_public_suffix(lists, host), host)
 }
 
 // Whether a certificate has a SAN, and it is one for the lowered host.
 fn match_san_domain(chain: Lent, lists: Lent, c: CertRow, host: &[u8]) -> bool
     ensures { result ≡ there_and (λ (s : San). match_san (lists_of lists.entry.words.now lists.entry.bytes.now) s (lowered host.now)) (cert_at chain.entry.words.now chain.entry.bytes.now c.0).san }
 {
-    if certs::cert_word(chain.words, c, SAN) == 0 {
-        return false;
+    match sans::san(chain.words, c) {
+        None => false,
+        Some(names) => match_san(chain, lists, names, host),
     }
-    match_san(chain, lists, c, host)
 }
 
 // Whether the leaf is one for the host, if there is a host.

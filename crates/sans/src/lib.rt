@@ -3,7 +3,9 @@
 
 ghost use Rattle.std.specs.Prelude.{◌≡◌};
 ghost use Rattle.laws.specs.Lists.{any};
-ghost use Rattle.model.specs.Decode.{attribute_at, general_at, generals_in, cert_at};
+ghost use Rattle.model.specs.Sections.{names};
+ghost use Rattle.model.specs.Decode.{attribute_at, general_at, generals_in, cert_word, cert_range, cert_at};
+ghost use Rattle.model.specs.Shown.{ShowsPart};
 ghost use Rattle.sans.specs.Sans.{number_of, is_kind, check_san_has_dns, is_common};
 
 use certs::row::{SAN, SAN_NAMES};
@@ -48,18 +50,24 @@ pub fn has_kind(chain: Lent, r: Range, k: Kind) -> bool
     view::some_word(chain.words, NAMES, r, KIND, u64::from(k))
 }
 
+// The names of a certificate's SAN, if it has one.
+pub fn san(words: &[u64], c: CertRow) -> Option<Range>
+    ensures { ShowsPart result (cert_word words.now c.0 30) (cert_range words.now c.0 31 names) }
+{
+    if certs::cert_word(words, c, SAN) == 0 {
+        return None;
+    }
+    Some(certs::cert_range(words, c, SAN_NAMES, NAMES))
+}
+
 // Whether the SAN of a certificate has a DNS name.
 pub fn check_san_has_dns(chain: Lent, c: CertRow) -> bool
     ensures { result ≡ check_san_has_dns (cert_at chain.entry.words.now chain.entry.bytes.now c.0) }
 {
-    if certs::cert_word(chain.words, c, SAN) == 0 {
-        return false;
+    match san(chain.words, c) {
+        None => false,
+        Some(names) => has_kind(chain, names, Kind::Dns),
     }
-    has_kind(
-        chain,
-        certs::cert_range(chain.words, c, SAN_NAMES, NAMES),
-        Kind::Dns,
-    )
 }
 
 // Whether an attribute is a common name.

@@ -1,9 +1,9 @@
-use mathlib.Core.Path.{sym, ◌∙◌}
+-- Assumes nothing.
 use Rattle.model.proofs.Optional.{absent_fails, present_and}
 use Rattle.hosts.proofs.san_names.Goals as goal
 
-pub returns-then-cert_word-eq0 : goal.returns-then-cert_word-eq0
-returns-then-cert_word-eq0 c = absent_fails _ _ _ (sym c.cert_word.ensures ∙ c.if-cert_word-eq0.true)
+pub returns-in-None : goal.returns-in-None
+returns-in-None c = absent_fails _ _ _ c.in-None.ensures
 
-pub returns : goal.returns
-returns c = present_and _ _ _ (λ e. c.if-cert_word-eq0.false (c.cert_word.ensures ∙ e)) (rw (← c.cert_range.ensures) c.any_dns_names.ensures)
+pub returns-in-Some : goal.returns-in-Some
+returns-in-Some c = present_and _ _ _ c.in-Some.ensures.0 (rw c.in-Some.ensures.1 at c.any_dns_names.ensures)

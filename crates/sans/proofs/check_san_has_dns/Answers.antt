@@ -1,12 +1,12 @@
-use mathlib.Core.Path.{sym, ◌∙◌}
+-- Assumes nothing.
 use Rattle.model.proofs.Optional.{absent_fails, present_and}
 use Rattle.sans.specs.Sans.{check_san_has_dns}
 use Rattle.sans.proofs.check_san_has_dns.Goals as goal
 
-pub returns-then-cert_word-eq0 : goal.returns-then-cert_word-eq0
+pub returns-in-None : goal.returns-in-None
 unfolding check_san_has_dns
-returns-then-cert_word-eq0 c = absent_fails _ _ _ (sym c.cert_word.ensures ∙ c.if-cert_word-eq0.true)
+returns-in-None c = absent_fails _ _ _ c.in-None.ensures
 
-pub returns : goal.returns
+pub returns-in-Some : goal.returns-in-Some
 unfolding check_san_has_dns
-returns c = present_and _ _ _ (λ e. c.if-cert_word-eq0.false (c.cert_word.ensures ∙ e)) (rw (← c.cert_range.ensures) c.has_kind.ensures)
+returns-in-Some c = present_and _ _ _ c.in-Some.ensures.0 (rw c.in-Some.ensures.1 at c.has_kind.ensures)

@@ -1,3 +1,4 @@
+-- Assumes nothing.
 use mathlib.Core.Path.{sym, ◌∙◌}
 use Rattle.laws.proofs.Tests.{and_then, and_stop}
 use Rattle.model.proofs.Optional.{absent_passes, present_passes}
@@ -5,14 +6,14 @@ use Rattle.constrained_c.specs.Rule14.{check_name_constraints}
 use Rattle.constrained_c.proofs.Laws.{names_only}
 use Rattle.constrained_c.proofs.rule14.check_name_constraints.Goals as goal
 
-pub returns-then-cert_word-eq0 : goal.returns-then-cert_word-eq0
+pub returns-in-None : goal.returns-in-None
 unfolding check_name_constraints
-returns-then-cert_word-eq0 c = absent_passes _ _ _ (sym c.cert_word.ensures ∙ c.if-cert_word-eq0.true) ∙ sym (names_only _ _ _)
+returns-in-None c = absent_passes _ _ _ c.in-None.ensures ∙ sym (names_only _ _ _)
 
 pub returns-then-check_subject : goal.returns-then-check_subject
 unfolding check_name_constraints
-returns-then-check_subject c = present_passes _ _ _ (λ e. c.if-cert_word-eq0.false (c.cert_word.ensures ∙ e)) (rw c.of-nc.ensures at (and_then c.check_subject.ensures c.if-check_subject.true c.check_san_constraints.ensures)) ∙ sym (names_only _ _ _)
+returns-then-check_subject c = present_passes _ _ _ c.in-Some.ensures.0 (rw c.in-Some.ensures.1 at (and_then c.check_subject.ensures c.if-check_subject.true c.check_san_constraints.ensures)) ∙ sym (names_only _ _ _)
 
-pub returns : goal.returns
+pub returns-else-check_subject : goal.returns-else-check_subject
 unfolding check_name_constraints
-returns c = present_passes _ _ _ (λ e. c.if-cert_word-eq0.false (c.cert_word.ensures ∙ e)) (and_stop (rw c.of-nc.ensures at c.check_subject.ensures) _ c.if-check_subject.false) ∙ sym (names_only _ _ _)
+returns-else-check_subject c = c.if-check_subject.false ∙ present_passes _ _ _ c.in-Some.ensures.0 (and_stop (rw c.in-Some.ensures.1 at c.check_subject.ensures) _ c.if-check_subject.false) ∙ sym (names_only _ _ _)
