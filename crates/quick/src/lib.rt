@@ -50,7 +50,8 @@ fn is_high(chain: Lent, s: StringNo) -> bool
     ascii::has_high(&chain.bytes[start..end])
 }
 
-// Whether there is such a string, and it has no byte over 127.
+// Whether there is such a string, and it has no byte over 127. Inlined, since a call for each string made the whole check a sixth slower.
+#[inline(always)]
 fn is_ascii(chain: Lent, s: StringNo, count: u64) -> bool
     requires { StringsLie chain.words.now chain.bytes.now × (count ≡ count_of chain.words.now stringRows) }
     ensures { result ≡ (not (leb count s.0) && not (high_string chain.entry.words.now chain.entry.bytes.now s.0)) }

@@ -2,10 +2,9 @@
 use Prim.Native.Nat.{ℕ}
 use mathlib.Core.Path.{◌≡◌, sym, ap, ◌∙◌}
 use mathlib.Core.List.{List}
-use Rattle.sound.specs.Answer.{ChainVerdict}
+use Rattle.sound.specs.Answer.{Checked, ChainVerdict}
 use Rattle.sound.specs.ChainFault.{ChainFault}
 use Rattle.sound.specs.declared.Bundle.TheVariants.{Chain}
-use Rattle.sound.specs.declared.Checked.{Checked}
 use Rattle.sound.proofs.Verdicts.{one_verdict}
 use Rattle.timed.specs.Packed.{packed}
 
