@@ -7,7 +7,7 @@ ghost use Rattle.std.specs.Prelude.{◌≡◌, eqb};
 ghost use Rattle.laws.specs.Lists.{any, all};
 ghost use Rattle.ascii.specs.Bytes.{is_high, is_host_byte, lower_byte, class_of, whole_table};
 
-// The classes of bytes that somebody asks for.
+// The classes of bytes that somebody asks for. They stay numbers: the table, a form that document 01 names, holds them as such (`whole_table`).
 pub const LETTER: u8 = 1;
 
 pub const DOT: u8 = 4;

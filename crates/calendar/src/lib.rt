@@ -31,7 +31,7 @@ impl Calendar {
 
     pub const THREE_NINETY_EIGHT_DAYS: u64 = 34387200;
 
-    // Whether a leaf may last from one second to another.
+    // Whether a leaf may last from one second to another. The five lines stay side by side: document 01 names this form, constants and one function over them.
     pub fn span_valid(begin: u64, end: u64) -> bool
         ensures { result ≡ span_valid begin end }
     {

@@ -1,5 +1,5 @@
 -- Host names as the code asks for them: each way through a function gives what its definition says. Assumes nothing.
-use Prim.Native.Nat.{ℕ, ◌-◌, ◌≤◌, ◌<◌}
+use Prim.Native.Nat.{ℕ, ◌+◌, ◌-◌, ◌≤◌, ◌<◌}
 use native.Mathlib.Omega.{arith}
 use native.Mathlib.Decide.{dec_lt}
 use mathlib.Core.Path.{◌≡◌, refl, sym, ap, ◌∙◌}
@@ -7,22 +7,42 @@ use mathlib.Core.List.{[], ◌∷◌}
 use mathlib.Core.Bool.{Bool, true, false, not, ◌&&◌, ◌||◌, and-false, or-false, false≢true}
 use lib.Dec.{leb, ltb, eqb}
 use lib.ListN.{length, get_or, take, drop}
-use borrow.Author.Tests.{eq-eqb, ne_eqb, eqb-true, leb-true, lt-ltb, le-ltb}
+use Rattle.std.specs.Borrow.{Bor}
+use Rattle.std.specs.Prelude.{MatchOption}
+use Rattle.std.specs.declared.option.Option.{Option}
+use Rattle.std.specs.declared.option.Option.TheVariants.{Some, None}
+use Rattle.std.specs.Option.{unwrap_or}
+use Rattle.std.specs.Cmp.Lexicographic.{pointwise}
+use borrow.Author.Tests.{le-leb, eqb-true, lt-ltb, le-ltb}
 use Rattle.laws.specs.Lists.{any, all, each, eq_list, is_empty, pick}
 use Rattle.laws.proofs.Meaning.{any_agree, any_map}
 use Rattle.laws.proofs.Parts.{rest, empty_length}
-use Rattle.laws.proofs.Tests.{and_left, and_right, pick_true, pick_false}
+use Rattle.laws.proofs.Equal.{each_sym}
+use Rattle.laws.proofs.Tests.{and_left, and_right, pick_true, pick_false, eqb_sym}
 use Rattle.ascii.specs.Bytes.{is_dot, is_star, is_host_byte, dot, star, class_of, lower_byte}
 use Rattle.ascii.proofs.Chars.{class_dot, class_star, lower_dot, lower_star}
 use Rattle.text.specs.Texts.{Text, quoted, lowered, taken, starts_with, ends_with, match_dns_name}
 use Rattle.text.specs.declared.Letters.{Letters}
-use Rattle.text.proofs.Laws.{lowered_length, taken_length, lowered_take, taken_drop, lowered_at, starts_taken, no_dot, last_dot}
+use Rattle.text.proofs.Chains.{each_of_pointwise}
+use Rattle.text.proofs.Laws.{start_of, lowered_length, taken_length, lowered_take, taken_drop, lowered_at, starts_taken, no_dot, last_dot}
 use Rattle.patterns.specs.Patterns.{one_label, match_name, final_dot_off, clean_name, Cleaned, permit_name, host_text, check_valid_pattern, valid_name_constraint}
 
 -- some byte of a lowered text is the character that a class stands for
 lowered_any : (k : ℕ) (p : ℕ → Bool) → ((x : ℕ) → eqb (class_of x) k ≡ p x) → ((x : ℕ) → p (lower_byte x) ≡ p x) → (s : Text) → any (λ x. eqb (class_of x) k) s ≡ any p (lowered s)
 unfolding lowered
 lowered_any k p e f s = any_agree (λ x. e x ∙ sym (f x)) s ∙ sym (any_map p lower_byte s)
+
+-- ---- what the library answers of a beginning and of an end
+flipped : (s r : Text) → pointwise eqb s r ≡ eq_list r s
+flipped s r = each_of_pointwise eqb s r ∙ each_sym eqb eqb_sym s r
+
+begins : (s : Text) → pointwise eqb (take 2 s) (quoted "*.") ≡ starts_with s (quoted "*.")
+begins s = start_of s (quoted "*.") (flipped (take 2 s) (quoted "*."))
+
+ends : (s : Text) → eq_list (quoted ".") (drop (length s - 1) s) ≡ ends_with s (quoted ".")
+unfolding ends_with each
+ends [] = refl
+ends (x ∷ s) = rw (le-leb 1 (length (x ∷ s)) (omega arith)) refl
 
 -- ---- one label before a tail
 module _ (letters : Letters) (t n : Text) where
@@ -88,34 +108,20 @@ lowered_clean s = rw (lowered_dot s, lowered_length s) (go (ends_with s (quoted 
 cleaned : (s : Text) {r : Text} → r ≡ final_dot_off s → Cleaned s r
 cleaned s e = record { part = e; clean = ap lowered e ∙ lowered_clean s }
 
-pub clean_empty : (s : Text) → length s ≡ 0 → Cleaned s s
+-- r is the text without a final dot, if there is one
+pub clean_of : (s : Bor Text) (r : Option (Bor Text)) → MatchOption r (pointwise eqb (drop (length s.now - 1) s.now) (quoted ".") ≡ false) (λ x. (pointwise eqb (drop (length s.now - 1) s.now) (quoted ".") ≡ true) × (x.now ≡ take (length s.now - 1) s.now) × (length x.now + 1 ≡ length s.now)) → Cleaned s.now (unwrap_or r s).now
 unfolding final_dot_off
-clean_empty s h = cleaned s (sym (pick_false _ _ (no_dot s h)))
-
-module _ (s : Text) (h : length s ≡ 0 → ⊥) {k : ℕ} (e : k ≡ class_of (get_or s (length s - 1) 0)) where
-  dotted : ends_with s (quoted ".") ≡ eqb k dot
-  dotted = last_dot s h ∙ rw (← class_dot, e) refl
-
-  pub clean_dot : k ≡ dot → Cleaned s (take (length s - 1) s)
-  unfolding final_dot_off
-  clean_dot y = cleaned s (sym (pick_true _ _ (dotted ∙ eq-eqb k dot y)))
-
-  pub clean_none : (k ≡ dot → ⊥) → Cleaned s s
-  unfolding final_dot_off
-  clean_none y = cleaned s (sym (pick_false _ _ (dotted ∙ ne_eqb k dot y)))
+clean_of s None m = cleaned s.now (sym (pick_false _ _ (sym (flipped (drop (length s.now - 1) s.now) (quoted ".") ∙ ends s.now) ∙ m)))
+clean_of s (Some x) m = cleaned s.now (m.1 ∙ sym (pick_true _ _ (sym (flipped (drop (length s.now - 1) s.now) (quoted ".") ∙ ends s.now) ∙ m.0)))
 
 pub permitted : (c n : Text) {d : Text} {r : Bool} → Cleaned c d → r ≡ match_dns_name d n → r ≡ permit_name c (lowered n)
 unfolding match_dns_name permit_name
 permitted c n e t = t ∙ rw e.clean refl
 
 -- ---- what a host name is made of
-pub host_empty : (s : Text) → length s ≡ 0 → false ≡ host_text s
+pub host_is : (s : Text) {e h : Bool} → e ≡ eqb (length s) 0 → h ≡ all is_host_byte s → (not e && h) ≡ host_text s
 unfolding host_text
-host_empty s h = rw (empty_length s, eq-eqb (length s) 0 h) refl
-
-pub host_some : (s : Text) {r : Bool} → (length s ≡ 0 → ⊥) → r ≡ all is_host_byte s → r ≡ host_text s
-unfolding host_text
-host_some s h t = t ∙ rw (empty_length s, ne_eqb (length s) 0 h) refl
+host_is s f t = rw (f, t, empty_length s) refl
 
 -- a text that begins with a star isn't made of such bytes
 star_first : (s : Text) → starts_with s (quoted "*.") ≡ true → all is_host_byte s ≡ false
@@ -123,40 +129,21 @@ unfolding starts_with each all
 star_first [] h = absurd (false≢true h)
 star_first (x ∷ s) h = let e : 42 ≡ x = eqb-true 42 x (and_left (eqb 42 x) _ (and_right (leb 2 (length (x ∷ s))) _ h)) in rw (← e) refl
 
--- and holds at least those two
-pub two_bytes : (s : Text) → starts_with s (quoted "*.") ≡ true → 2 ≤ length s
-unfolding starts_with
-two_bytes s h = leb-true 2 (length s) (and_left (leb 2 (length s)) _ h)
-
-module _ (s : Text) {e : Bool} (f : e ≡ starts_with s (quoted "*.")) where
+module _ (s : Text) {e : Bool} (f : e ≡ pointwise eqb (take 2 s) (quoted "*.")) where
   pub valid_plain : {r : Bool} → e ≡ false → r ≡ host_text s → r ≡ check_valid_pattern s
   unfolding check_valid_pattern
-  valid_plain y t = t ∙ rw (← f, y) (sym (or-false (host_text s)))
+  valid_plain y t = t ∙ rw (sym (f ∙ begins s) ∙ y) (sym (or-false (host_text s)))
 
-  module _ (y : e ≡ true) {h : Bool} (g : h ≡ host_text (take (length s - 2) (drop 2 s))) where
-    starred : check_valid_pattern s ≡ (h && any is_dot (drop 2 s))
-    unfolding check_valid_pattern host_text
-    starred = rw (star_first s (sym f ∙ y), and-false (not (is_empty s)), ← f, y, g, rest 2 s) refl
-
-    pub valid_star : {r : Bool} → h ≡ true → r ≡ any (λ x. eqb (class_of x) dot) (take (length s - 2) (drop 2 s)) → r ≡ check_valid_pattern s
-    valid_star z t = t ∙ rw (starred, z, rest 2 s) (any_agree class_dot (drop 2 s))
-
-    pub valid_none : h ≡ false → false ≡ check_valid_pattern s
-    valid_none z = sym (starred ∙ rw z refl)
+  -- u is what stands after the star and its dot
+  pub valid_star : e ≡ true → {u : Text} → u ≡ drop 2 s → {h d : Bool} → h ≡ host_text u → d ≡ any (λ x. eqb (class_of x) dot) u → (h && d) ≡ check_valid_pattern s
+  unfolding check_valid_pattern host_text
+  valid_star y q g t =
+      let b : starts_with s (quoted "*.") ≡ true = sym (f ∙ begins s) ∙ y in
+      rw (g, t, q, any_agree class_dot (drop 2 s), star_first s b, and-false (not (is_empty s)), b) refl
 
 -- ---- a DNS constraint; d is the part that cleaning hands back
-module _ (c : Text) {d : Text} (e : Cleaned c d) where
-  pub constraint_empty : length d ≡ 0 → false ≡ valid_name_constraint c
-  unfolding valid_name_constraint
-  constraint_empty h = rw (← e.clean, empty_length (lowered d), lowered_length d, eq-eqb (length d) 0 h) refl
-
-  module _ (h : length d ≡ 0 → ⊥) {k : ℕ} (g : k ≡ class_of (get_or d (length d - 1) 0)) where
-    opened_constraint : valid_name_constraint c ≡ (not (eqb k dot) && not (any is_star (lowered d)))
-    unfolding valid_name_constraint
-    opened_constraint = rw (← e.clean, empty_length (lowered d), lowered_length d, ne_eqb (length d) 0 h, lowered_dot d, last_dot d h, ← class_dot (get_or d (length d - 1) 0), ← g) refl
-
-    pub constraint_dot : k ≡ dot → false ≡ valid_name_constraint c
-    constraint_dot y = sym (opened_constraint ∙ rw (eq-eqb k dot y) refl)
-
-    pub constraint_star : {r : Bool} → (k ≡ dot → ⊥) → r ≡ any (λ x. eqb (class_of x) star) d → not r ≡ valid_name_constraint c
-    constraint_star y t = rw (opened_constraint, ne_eqb k dot y, t, lowered_any star is_star class_star lower_star d) refl
+pub constraint_is : (c : Text) {d : Text} → Cleaned c d → {e o t : Bool} → e ≡ eqb (length d) 0 → o ≡ pointwise eqb (quoted ".") (drop (length d - 1) d) → t ≡ any (λ x. eqb (class_of x) star) d → (not e && not o && not t) ≡ valid_name_constraint c
+unfolding valid_name_constraint
+constraint_is c {d} g f h k =
+    let o : pointwise eqb (quoted ".") (drop (length d - 1) d) ≡ ends_with (lowered d) (quoted ".") = each_of_pointwise eqb _ _ ∙ ends d ∙ sym (lowered_dot d) in
+    rw (f, h, k, o, ← g.clean, empty_length (lowered d), lowered_length d, lowered_any star is_star class_star lower_star d) refl

@@ -39,15 +39,7 @@ pub fn match_name(letters: Letters, pattern: &[u8], name: &[u8]) -> bool
 pub fn clean_name(name: &[u8]) -> &[u8]
     ensures { Cleaned name.now result.now }
 {
-    let n = name.len();
-    if n == 0 {
-        return name;
-    }
-    let last = n - 1;
-    if ascii::class_of(name[last]) == ascii::DOT {
-        return &name[..last];
-    }
-    name
+    name.strip_suffix(b".").unwrap_or(name)
 }
 
 // Whether the constraint, once cleaned, covers the lowered name.
@@ -57,27 +49,21 @@ pub fn permit_name(constraint: &[u8], name: &[u8]) -> bool
     text::match_dns_name(clean_name(constraint), name)
 }
 
+// Whether a text is not empty and made of a host name's bytes.
 fn host_text(s: &[u8]) -> bool
     ensures { result ≡ host_text s.now }
 {
-    if s.len() == 0 {
-        return false;
-    }
-    ascii::all_host_bytes(s)
+    !s.is_empty() & ascii::all_host_bytes(s)
 }
 
 // Whether a pattern is one that OpenSSL takes.
 pub fn check_valid_pattern(pattern: &[u8]) -> bool
     ensures { result ≡ check_valid_pattern pattern.now }
 {
-    if !text::starts_with(pattern, b"*.") {
-        return host_text(pattern);
+    match pattern.strip_prefix(b"*.") {
+        Some(tail) => host_text(tail) & ascii::has_class(tail, ascii::DOT),
+        None => host_text(pattern),
     }
-    let tail = &pattern[2..];
-    if host_text(tail) {
-        return ascii::has_class(tail, ascii::DOT);
-    }
-    false
 }
 
 // Whether a DNS constraint is one that Chrome takes.
@@ -85,12 +71,5 @@ pub fn valid_name_constraint(constraint: &[u8]) -> bool
     ensures { result ≡ valid_name_constraint constraint.now }
 {
     let name = clean_name(constraint);
-    let n = name.len();
-    if n == 0 {
-        return false;
-    }
-    if ascii::class_of(name[n - 1]) == ascii::DOT {
-        return false;
-    }
-    !ascii::has_class(name, ascii::STAR)
+    !name.is_empty() & !name.ends_with(b".") & !ascii::has_class(name, ascii::STAR)
 }

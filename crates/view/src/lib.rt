@@ -78,6 +78,7 @@ pub fn next<'a>(v: View<'a>) -> View<'a>
 }
 
 // Whether some row of a range has x as its word j. The rows are read through a view, one after the other; whoever asks sees no view.
+// The loop stays: it steps the view, which document 01 names, and counts no index.
 pub fn some_word(words: &[u64], s: Section, r: Range, j: u64, x: u64) -> bool
     ensures { result ≡ some_word words.now s r j x }
 {
