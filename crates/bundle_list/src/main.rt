@@ -4,7 +4,7 @@
 #![tactic(auto)]
 
 use data_file::{Ended, Size};
-use sound::{Bundle, Checked, Place};
+use sound::{Bundle, Place, Refusal};
 use std::{fmt, io};
 use table::Lent;
 
@@ -73,40 +73,42 @@ impl Counts {
 }
 
 // A refusal in the numbers of the file.
-fn refused(number: u64, bundle: Bundle, place: Place) -> Answer {
-    let bundle = match bundle {
-        Bundle::Chain => 0,
-        Bundle::Policy => 1,
-    };
-    let (kind, word) = match place {
-        Place::Nothing => (0, 0),
-        Place::Word(w) => (1, w as u64),
-        Place::Certificate(_) => (2, 0),
-        Place::Pair(_, _) => (3, 0),
-    };
-    Answer {
-        bundle,
-        number,
-        kind,
-        word,
+impl From<Refusal> for Answer {
+    fn from(r: Refusal) -> Answer {
+        let bundle = match r.bundle {
+            Bundle::Chain => 0,
+            Bundle::Policy => 1,
+        };
+        let (kind, word) = match r.place {
+            Place::Nothing => (0, 0),
+            Place::Word(w) => (1, w as u64),
+            Place::Certificate(_) => (2, 0),
+            Place::Pair(_, _) => (3, 0),
+        };
+        Answer {
+            bundle,
+            number: r.number,
+            kind,
+            word,
+        }
     }
 }
 
 // What the check of a bundle answers.
 fn check(bundle: u64, lent: Lent) -> Answer {
     let checked = if bundle == 0 {
-        sound::check_chain(lent.words, lent.bytes)
+        sound::check_chain(lent)
     } else {
-        sound::check_policy(lent.words, lent.bytes)
+        sound::check_policy(lent)
     };
     match checked {
-        Checked::Sound => Answer {
+        Ok(()) => Answer {
             bundle,
             number: 0,
             kind: 0,
             word: 0,
         },
-        Checked::Refused(number, bundle, place) => refused(number, bundle, place),
+        Err(r) => Answer::from(r),
     }
 }
 

@@ -16,7 +16,7 @@ const UNWRITTEN: u32 = 2779096485;
 // The same, as a word of a case.
 const UNWRITTEN_WORD: u64 = UNWRITTEN as u64;
 
-// Room for a bundle: one word and one byte more than it may have, so that it can be too large.
+// Room for a bundle: one word and one byte more than it may have, so that it can be too large. Each program has its own: to lend an array of any size needs a bound on the size, which no public function may ask for.
 #[derive(Drop)]
 struct Room {
     words: [u64; 8193],

@@ -10,7 +10,7 @@ use table::Lent;
 // What stands in the lent report before a judgement, so that the output shows which words were written.
 const UNWRITTEN: u32 = 9;
 
-// Room for a bundle. A judge takes no larger one.
+// Room for a bundle. A judge takes no larger one. Each program has its own: to lend an array of any size needs a bound on the size, which no public function may ask for.
 #[derive(Drop)]
 struct Room {
     words: [u64; 8192],
