@@ -4,13 +4,13 @@ use native.Mathlib.Omega.{arith}
 use native.Mathlib.Nat.{mod-one, mod-lt, zero-mul, zero-add}
 use mathlib.Core.Path.{◌≡◌, refl, sym, ◌∙◌}
 use mathlib.Core.Bool.{Bool, true, false, not, ◌||◌, ◌&&◌, or-false, or-true}
-use lib.Dec.{eqb, leb}
+use lib.Dec.{eqb}
 use lib.Pow.{mod-pow-add, pow_pos}
 use borrow.Author.Tests.{ne_eqb}
 use Rattle.laws.specs.Optional.{is_there}
+use Rattle.model.specs.Model.{rsa, dsa, other_key}
 use Rattle.model.specs.Decode.{unless_zero, bit_of, key_of}
 use Rattle.model.proofs.Optional.{there_is}
-use Rattle.fields.specs.KeyLevel.{strong_key}
 
 -- ---- rule 4
 neither : (s t : Bool) → (s && t) ≡ not (not s || not t)
@@ -39,16 +39,16 @@ module _ (n : ℕ) where
   pub some_bit : not (eqb (n % 512) 0) ≡ (bit_of 0 n || bit_of 1 n || bit_of 2 n || bit_of 3 n || bit_of 4 n || bit_of 5 n || bit_of 6 n || bit_of 7 n || bit_of 8 n)
   some_bit = sym (bit_more 8 (bit_more 7 (bit_more 6 (bit_more 5 (bit_more 4 (bit_more 3 (bit_more 2 (bit_more 1 (bit_more 0 none)))))))))
 
--- ---- rule 6
-module _ (least bits : ℕ) (d : Bool) {k : ℕ} where
-  pub key_rsa : {c r : ℕ} → k ≡ c → k ≡ 0 → r ≡ bits → leb least r ≡ strong_key least d (key_of c bits)
-  unfolding strong_key key_of
-  key_rsa e z h = rw (← e, z, h) refl
+-- ---- rule 6: k is the word of the key as it was read
+module _ (bits : ℕ) {k c : ℕ} (e : k ≡ c) where
+  pub key_rsa : {r : ℕ} → k ≡ 0 → r ≡ bits → rsa r ≡ key_of c bits
+  unfolding key_of
+  key_rsa z h = rw (← e, z, h) refl
 
-  pub key_dsa : {c : ℕ} → k ≡ c → k ≡ 1 → d ≡ strong_key least d (key_of c bits)
-  unfolding strong_key key_of
-  key_dsa e z = rw (← e, z) refl
+  pub key_dsa : k ≡ 1 → dsa ≡ key_of c bits
+  unfolding key_of
+  key_dsa z = rw (← e, z) refl
 
-  pub key_other : {c : ℕ} → k ≡ c → (k ≡ 0 → ⊥) → (k ≡ 1 → ⊥) → true ≡ strong_key least d (key_of c bits)
-  unfolding strong_key key_of
-  key_other e z o = rw (← e, ne_eqb k 0 z, ne_eqb k 1 o) refl
+  pub key_other : (k ≡ 0 → ⊥) → (k ≡ 1 → ⊥) → other_key ≡ key_of c bits
+  unfolding key_of
+  key_other z o = rw (← e, ne_eqb k 0 z, ne_eqb k 1 o) refl

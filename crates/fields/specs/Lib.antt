@@ -1,3 +1,4 @@
+pub mod Keys
 pub mod KeyLevel
 pub mod KeyUsage
 pub mod Signatures
