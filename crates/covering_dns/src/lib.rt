@@ -11,7 +11,7 @@ use model::chain::{NAMES, NameNo};
 use sans::Kind;
 use table::{Lent, Range, STRINGS, StringNo};
 
-// How a DNS constraint covers a name: both lowered, or the constraint cleaned and the name lowered.
+// How a DNS constraint covers a name: both lowered, or the constraint cleaned and the name lowered. An enum and no closure, as `text::Letters`.
 #[derive(Clone, Copy)]
 pub enum Covering {
     Lowered,

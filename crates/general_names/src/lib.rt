@@ -7,6 +7,7 @@ ghost use Rattle.model.specs.Decode.{kind_at, name_text, name_range};
 use model::chain::{NAMES, NameNo, RDNS, rows_named};
 use table::{Lent, Range};
 
+// The kind as its word, which may be none of the five: `kind_at` promises the word.
 pub fn kind(words: &[u64], n: NameNo) -> u64
     ensures { result ≡ kind_at words.now n.0 }
 {

@@ -10,7 +10,7 @@ ghost use Rattle.names.specs.Names.{same_value, same_attr, same_rdn, same_dn, rd
 use model::chain::{ATTRIBUTES, AttributeNo, RdnNo};
 use table::{Lent, Range};
 
-// How values are compared: as they stand, or in normal form.
+// How values are compared: as they stand, or in normal form. An enum and no closure, as `text::Letters`.
 #[derive(Clone, Copy)]
 pub enum Values {
     AsGiven,

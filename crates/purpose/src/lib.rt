@@ -12,7 +12,7 @@ use certs::{cert_range, cert_word};
 use model::chain::{CertRow, USAGES, UsageNo};
 use table::{Lent, Range};
 
-// The usages by their numbers.
+// The usages by their numbers. An enum would have eight cases, and two are asked for.
 const SERVER_AUTH: u64 = 0;
 
 const ANY_USAGE: u64 = 6;
@@ -24,7 +24,7 @@ const KEY_ENCIPHERMENT: u64 = 4;
 
 const KEY_AGREEMENT: u64 = 16;
 
-// The usages that serve: ServerAuth alone, or Any too.
+// The usages that serve: ServerAuth alone, or Any too. An enum and no closure, as `text::Letters`.
 #[derive(Clone, Copy)]
 pub enum Serving {
     Server,

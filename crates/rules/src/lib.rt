@@ -39,7 +39,7 @@ fn dsa_allowed(policy: Policy) -> bool
 }
 
 impl Case<'_> {
-    // ---- rules that the policies ask in two ways
+    // ---- rules that the policies ask in two ways. A match and no trait of policies: the definitions go by the case too (`purpose_holds`, `constraints_hold`, `host_holds`), and nothing else differs.
 
     // Rule 6.
     fn key_holds(self, c: CertRow) -> bool

@@ -5,7 +5,7 @@ ghost use Rattle.std.specs.Prelude.{◌≡◌};
 ghost use Rattle.laws.specs.Lists.{eq_list};
 ghost use Rattle.text.specs.Texts.{taken_byte, taken, lowered, starts_with, ends_with, match_dns_name};
 
-// How a pattern's letters are taken: as they stand, or lowered.
+// How a pattern's letters are taken: as they stand, or lowered. An enum and no closure: contracts name the case, and a closure would be asked whether it may be called, which no public function asks.
 #[derive(Clone, Copy)]
 pub enum Letters {
     AsGiven,
