@@ -5,12 +5,13 @@ use mathlib.Core.Path.{◌≡◌, refl, sym, ap, subst, ◌∙◌}
 use mathlib.Core.Logic.{◌⊎◌, inl, inr, ⊎_elim, ◌↔◌}
 use mathlib.Core.List.{List}
 use lib.ListN.{length}
+use Rattle.std.specs.Prelude.{Option, Some, None, Ok, Err}
 use Rattle.table.specs.declared.RuleNo.{RuleNo}
 use Rattle.model.specs.Model.{Chain, Lists}
 use Rattle.table.specs.Table.{count_of}
 use Rattle.model.specs.Sections.{certs}
 use Rattle.model.specs.Decode.{chain_of, lists_of}
-use Rattle.sound.specs.Answer.{First as FirstFault, SoundChain, SoundPolicy, ChainVerdict}
+use Rattle.sound.specs.Answer.{Checked, First as FirstFault, SoundChain, SoundPolicy, ChainVerdict}
 use Rattle.sound.specs.Limits.{most_certs}
 use Rattle.sound.specs.ChainFault.{ChainFault}
 use Rattle.sound.specs.PolicyFault.{PolicyFault}
@@ -18,14 +19,10 @@ use Rattle.sound.specs.declared.Bundle.{Bundle}
 use Rattle.sound.specs.declared.Bundle.TheVariants.{Chain as ChainBundle, Policy as PolicyBundle}
 use Rattle.sound.specs.declared.Place.{Place}
 use Rattle.sound.specs.declared.Place.TheVariants.{Nothing, Word}
-use Rattle.sound.specs.declared.Checked.{Checked}
-use Rattle.sound.specs.declared.Checked.TheVariants.{Sound, Refused as RefusedBundle}
 use Rattle.faults.specs.Order.{In, Less, Ascending, Due, DueShort, DueBroken}
 use Rattle.faults.specs.Places.{short_entry}
 use Rattle.faults.specs.Report.{write, fitting, first_of}
 use Rattle.faults.specs.declared.Entry.{Entry}
-use Rattle.faults.specs.declared.First.{First}
-use Rattle.faults.specs.declared.First.TheVariants.{Clear, Broken as FirstBroken}
 use Rattle.faults.proofs.Theorems.{bound, first_least, first_clear, total_most, one_report, reported_is}
 use Rattle.policies.proofs.Laws.{no_more, few_singles, one_of_pairs}
 use Rattle.judge.proofs.Laws.{few_certs, chain_once, chain_sound, chain_refused, policy_refused, both_once, both_sound}
@@ -46,13 +43,13 @@ kind (Accepted q) = 0
 kind (Broken r q total written) = 1
 kind (Refused n b q) = 2
 
-clear_if : (f : First) (x y : ℕ) → answer_by f x y ≡ Accepted Nothing → f ≡ Clear
-clear_if Clear x y e = refl
-clear_if (FirstBroken d) x y e = absurd (omega (arith, ap kind e))
+clear_if : (f : Option Entry) (x y : ℕ) → answer_by f x y ≡ Accepted Nothing → f ≡ None
+clear_if None x y e = refl
+clear_if (Some d) x y e = absurd (omega (arith, ap kind e))
 
-broken_if : (f : First) (x y : ℕ) {r : RuleNo} {q : Place} {total written : ℕ} → answer_by f x y ≡ Broken r q total written → (d : Entry) × (f ≡ FirstBroken d) × (r ≡ d.rule) × (q ≡ place_of d.spot)
-broken_if Clear x y e = absurd (omega (arith, ap kind e))
-broken_if (FirstBroken d) x y e = (d, refl, cc, cc)
+broken_if : (f : Option Entry) (x y : ℕ) {r : RuleNo} {q : Place} {total written : ℕ} → answer_by f x y ≡ Broken r q total written → (d : Entry) × (f ≡ Some d) × (r ≡ d.rule) × (q ≡ place_of d.spot)
+broken_if None x y e = absurd (omega (arith, ap kind e))
+broken_if (Some d) x y e = (d, refl, cc, cc)
 
 -- ---- a judgement by any policy: what is asked of the check of its bundles is that only one answer is allowed
 module _ (Allowed : Checked → Type 0) (once : (r s : Checked) → Allowed r → Allowed s → r ≡ s) (p : Policy) (c : Chain) (l : Lists) where
@@ -65,13 +62,13 @@ module _ (Allowed : Checked → Type 0) (once : (r s : Checked) → Allowed r �
     outcome r v = subst (λ (x : Checked). Outcome p c l x old new a) (once j.checked r j.verdict v) j.outcome
 
     -- Demand 1. What the check refuses is refused by its number, bundle and place, and every word of the report is as it was.
-    pub refused : (n : ℕ) (b : Bundle) (q : Place) → Allowed (RefusedBundle n b q) → (a ≡ Refused n b q) × (new ≡ old)
-    refused n b q v = outcome (RefusedBundle n b q) v
+    pub refused : (n : ℕ) (b : Bundle) (q : Place) → Allowed (Err (record { number = n; bundle = b; place = q })) → (a ≡ Refused n b q) × (new ≡ old)
+    refused n b q v = outcome (Err (record { number = n; bundle = b; place = q })) v
 
     -- ---- sound bundles
-    module _ (sound : Allowed Sound) where
+    module _ (sound : Allowed (Ok tt)) where
       judging : Judging p c l old new a
-      judging = outcome Sound sound
+      judging = outcome (Ok tt) sound
 
       -- Demand 2. A chain is accepted exactly if nothing is due.
       pub accepted : (a ≡ Accepted Nothing) ↔ ((e : Entry) → IsDue e → ⊥)
@@ -79,7 +76,7 @@ module _ (Allowed : Checked → Type 0) (once : (r s : Checked) → Allowed r �
           let t = judging.tally in
           let f = first_clear short (broken p c l) (places_of p) c.count judging.reported in (
             λ e. f.0 (clear_if t.first t.total t.written (sym judging.answer_is ∙ e)),
-            λ h. judging.answer_is ∙ ap (λ (x : First). answer_by x t.total t.written) (f.1 h),
+            λ h. judging.answer_is ∙ ap (λ (x : Option Entry). answer_by x t.total t.written) (f.1 h),
           )
 
       -- Else the answer gives the rule and the place of an entry that is due, before all others that are.
@@ -116,10 +113,10 @@ module _ (Allowed : Checked → Type 0) (once : (r s : Checked) → Allowed r �
   pub one_judgement : {old new new' : List ℕ} {a a' : Answer} → Judged Allowed p c l old new a → Judged Allowed p c l old new' a' → (a ≡ a') × (new ≡ new')
   one_judgement {old} {new} {new'} {a} {a'} j k = go j.checked j.outcome (outcome k j.checked j.verdict) where
     go : (r : Checked) → Outcome p c l r old new a → Outcome p c l r old new' a' → (a ≡ a') × (new ≡ new')
-    go Sound x y =
+    go (Ok _) x y =
         let (e, t) = one_report short (broken p c l) (places_of p) c.count x.reported y.reported in
         (x.answer_is ∙ ap answer_of t ∙ sym y.answer_is, e)
-    go (RefusedBundle n b q) x y = (x.0 ∙ sym y.0, x.1 ∙ sym y.1)
+    go (Err r) x y = (x.0 ∙ sym y.0, x.1 ∙ sym y.1)
 
 -- ---- OpenSSL's judge
 module _ (w b : List ℕ) {old new : List ℕ} {a : Answer} (j : OpenSslJudged w b old new a) where

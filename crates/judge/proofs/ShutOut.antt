@@ -6,21 +6,18 @@ use mathlib.Core.Logic.{⊎_elim, ◌↔◌}
 use mathlib.Core.List.Memᴰ
 use mathlib.Core.List.{List, [], ◌∷◌}
 use lib.ListN.{length, get_or}
+use Rattle.std.specs.Prelude.{Option, Some, None, Ok}
 use Rattle.table.specs.declared.RuleNo.{RuleNo}
 use Rattle.model.specs.Model.{Chain, Lists}
 use Rattle.model.specs.Decode.{chain_of, lists_of}
 use Rattle.sound.specs.Limits.{most_certs}
-use Rattle.sound.specs.Answer.{SoundChain, SoundPolicy}
+use Rattle.sound.specs.Answer.{Checked, SoundChain, SoundPolicy}
 use Rattle.sound.specs.declared.Bundle.{Bundle}
 use Rattle.sound.specs.declared.Place.{Place}
-use Rattle.sound.specs.declared.Checked.{Checked}
-use Rattle.sound.specs.declared.Checked.TheVariants.{Sound}
 use Rattle.faults.specs.Order.{In, Ascending, Due, DueShort, DueBroken}
 use Rattle.faults.specs.Places.{IsPlace}
 use Rattle.faults.specs.Report.{write, first_of, fitting}
 use Rattle.faults.specs.declared.Entry.{Entry}
-use Rattle.faults.specs.declared.First.{First}
-use Rattle.faults.specs.declared.First.TheVariants.{Clear, Broken as FirstBroken}
 use Rattle.faults.proofs.Theorems.{only}
 use Rattle.policies.specs.Tables.{places_of, rules, short}
 use Rattle.rules.specs.Rules.{broken}
@@ -32,16 +29,16 @@ use Rattle.judge.specs.declared.Answer.{Answer}
 use Rattle.judge.specs.declared.Answer.TheVariants.{Broken, Refused}
 use Rattle.judge.proofs.Demands.{kind, report, accepts_openssl, accepts_chrome}
 
-no_refusal : (f : First) (x y : ℕ) → kind (answer_by f x y) < 2
-no_refusal Clear x y = omega arith
-no_refusal (FirstBroken e) x y = omega arith
+no_refusal : (f : Option Entry) (x y : ℕ) → kind (answer_by f x y) < 2
+no_refusal None x y = omega arith
+no_refusal (Some e) x y = omega arith
 
-total_of : (f : First) (x y : ℕ) {r : RuleNo} {q : Place} {total written : ℕ} → Broken r q total written ≡ answer_by f x y → total ≡ x
-total_of Clear x y e = absurd (omega (arith, ap kind e))
-total_of (FirstBroken d) x y e = cc
+total_of : (f : Option Entry) (x y : ℕ) {r : RuleNo} {q : Place} {total written : ℕ} → Broken r q total written ≡ answer_by f x y → total ≡ x
+total_of None x y e = absurd (omega (arith, ap kind e))
+total_of (Some d) x y e = cc
 
 -- ---- sound bundles, by any policy; what is asked of the check of its bundles is that only one answer is allowed
-module _ (Allowed : Checked → Type 0) (once : (r s : Checked) → Allowed r → Allowed s → r ≡ s) (p : Policy) (c : Chain) (l : Lists) (sound : Allowed Sound) (few : c.count ≤ most_certs) where
+module _ (Allowed : Checked → Type 0) (once : (r s : Checked) → Allowed r → Allowed s → r ≡ s) (p : Policy) (c : Chain) (l : Lists) (sound : Allowed (Ok tt)) (few : c.count ≤ most_certs) where
   -- what is due
   abbrev pub IsDue : Entry → Type 0
   IsDue = Due short (broken p c l) (places_of p) c.count

@@ -1,17 +1,15 @@
 -- What a judge must answer and write (document 01, "What the judge says"). Assumes nothing.
-use Rattle.std.specs.Prelude.{ℕ, ◌≡◌, ◌⊎◌, List, [], ◌∷◌}
+use Rattle.std.specs.Prelude.{ℕ, ◌≡◌, ◌⊎◌, List, [], ◌∷◌, Option, Some, None, Ok, Err}
 use Rattle.model.specs.Model.{Chain, Lists}
 use Rattle.model.specs.Decode.{chain_of, lists_of}
-use Rattle.sound.specs.Answer.{ChainVerdict, PolicyVerdict, bundle_number, place_kind, place_first, place_second}
+use Rattle.sound.specs.Answer.{Checked, ChainVerdict, PolicyVerdict, bundle_number, place_kind, place_first, place_second}
 use Rattle.sound.specs.declared.Place.{Place}
 use Rattle.sound.specs.declared.Place.TheVariants.{Nothing, Certificate, Pair}
-use Rattle.sound.specs.declared.Checked.{Checked}
-use Rattle.sound.specs.declared.Checked.TheVariants.{Sound, Refused as RefusedBundle}
+use Rattle.sound.specs.declared.Refusal.{Refusal}
 use Rattle.faults.specs.Order.{Reported}
 use Rattle.faults.specs.declared.Spot.{Spot}
 use Rattle.faults.specs.declared.Spot.TheVariants.{Nothing as NoSpot, Certificate as OneSpot, Pair as TwoSpots}
-use Rattle.faults.specs.declared.First.{First}
-use Rattle.faults.specs.declared.First.TheVariants.{Clear, Broken as FirstBroken}
+use Rattle.faults.specs.declared.Entry.{Entry}
 use Rattle.faults.specs.declared.Tally.{Tally}
 use Rattle.policies.specs.Tables.{places_of, short}
 use Rattle.rules.specs.Rules.{broken, no_lists}
@@ -27,12 +25,16 @@ place_of (OneSpot i) = Certificate i
 place_of (TwoSpots i j) = Pair i j
 
 -- the answer by the first entry: accepted if there is none, and else its rule and place with total and entries written
-abbrev pub answer_by : First → ℕ → ℕ → Answer
-answer_by Clear total written = Accepted Nothing
-answer_by (FirstBroken e) total written = Broken e.rule (place_of e.spot) total written
+abbrev pub answer_by : Option Entry → ℕ → ℕ → Answer
+answer_by None total written = Accepted Nothing
+answer_by (Some e) total written = Broken e.rule (place_of e.spot) total written
 
 abbrev pub answer_of : Tally → Answer
 answer_of t = answer_by t.first t.total t.written
+
+-- the answer by a refusal
+abbrev pub refused_by : Refusal → Answer
+refused_by r = Refused r.number r.bundle r.place
 
 -- ---- document 01's number and values of an answer: number, bundle, kind of place, its two values, rule, total, entries written
 abbrev pub answer_words : Answer → List ℕ
@@ -49,8 +51,8 @@ pub record Judging (p : Policy) (c : Chain) (l : Lists) (old new : List ℕ) (a 
 
 -- what follows from the check of the bundles: a refusal is handed on, and the report stays as it was
 abbrev pub Outcome : Policy → Chain → Lists → Checked → List ℕ → List ℕ → Answer → Type 0
-Outcome p c l Sound old new a = Judging p c l old new a
-Outcome p c l (RefusedBundle n j q) old new a = (a ≡ Refused n j q) × (new ≡ old)
+Outcome p c l (Ok u) old new a = Judging p c l old new a
+Outcome p c l (Err r) old new a = (a ≡ refused_by r) × (new ≡ old)
 
 -- `Allowed` says which answers the check of the bundles may give
 pub record Judged (Allowed : Checked → Type 0) (p : Policy) (c : Chain) (l : Lists) (old new : List ℕ) (a : Answer) : Type 0 where
@@ -64,8 +66,8 @@ OpenSslJudged w b = Judged (ChainVerdict w b) OpenSsl (chain_of w b) no_lists
 
 -- two bundles, of which the chain's goes first: sound if both are; a refusal is the chain's, or the policy's where the chain's bundle is sound
 abbrev pub BothVerdict : List ℕ → List ℕ → List ℕ → List ℕ → Checked → Type 0
-BothVerdict w b pw pb Sound = ChainVerdict w b Sound × PolicyVerdict pw pb Sound
-BothVerdict w b pw pb (RefusedBundle n j q) = ChainVerdict w b (RefusedBundle n j q) ⊎ (ChainVerdict w b Sound × PolicyVerdict pw pb (RefusedBundle n j q))
+BothVerdict w b pw pb (Ok u) = ChainVerdict w b (Ok u) × PolicyVerdict pw pb (Ok u)
+BothVerdict w b pw pb (Err r) = ChainVerdict w b (Err r) ⊎ (ChainVerdict w b (Ok tt) × PolicyVerdict pw pb (Err r))
 
 -- Chrome takes the chain's bundle and the policy's, which holds its lists
 abbrev pub ChromeJudged : List ℕ → List ℕ → List ℕ → List ℕ → List ℕ → List ℕ → Answer → Type 0

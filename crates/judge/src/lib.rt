@@ -4,15 +4,21 @@
 ghost use Rattle.std.specs.Prelude.{◌≡◌, ◌<◌};
 ghost use Rattle.table.specs.Table.{count_of};
 ghost use Rattle.model.specs.Sections.{certs};
-ghost use Rattle.model.specs.Decode.{chain_of, lists_of};
-ghost use Rattle.sound.specs.declared.Checked.TheVariants.{Sound};
-ghost use Rattle.judge.specs.Judged.{place_of, answer_of, Judging, Outcome, OpenSslJudged, BothVerdict, ChromeJudged};
+ghost use Rattle.rules.specs.Rules.{chain_in, lists_in};
+ghost use Rattle.judge.specs.Judged.{place_of, answer_of, refused_by, Judging, Outcome, OpenSslJudged, BothVerdict, ChromeJudged};
 
-use faults::{First, Spot, Tally};
+use faults::{Spot, Tally};
 use model::chain::CERTS;
 use policies::Policy;
-use sound::{Bundle, Checked, Place};
-use table::RuleNo;
+use rules::Case;
+use sound::{Bundle, Place, Refusal};
+use table::{Lent, RuleNo};
+
+// What a policy without lists lends.
+const NO_LISTS: Lent<'static> = Lent {
+    words: &[],
+    bytes: &[],
+};
 
 // What the judge says. Every answer holds its place. A broken rule comes with the total of entries and how many of them were written, a refusal with the bundle.
 #[derive(Clone, Copy)]
@@ -22,6 +28,7 @@ pub enum Answer {
     Refused(u64, Bundle, Place),
 }
 
+// The place of an entry. It can't be a From: both types are of crates below.
 fn place_of(spot: Spot) -> Place
     ensures { result ≡ place_of spot }
 {
@@ -33,101 +40,74 @@ fn place_of(spot: Spot) -> Place
 }
 
 // What is said of the report that was written.
-fn answer_of(t: Tally) -> Answer
-    ensures { result ≡ answer_of t }
-{
-    let first = t.first;
-    match first {
-        First::Clear => Answer::Accepted(Place::Nothing),
-        First::Broken(e) => {
-            let rule = e.rule;
-            let spot = e.spot;
-            Answer::Broken(rule, place_of(spot), t.total, t.written)
+impl From<Tally> for Answer {
+    ghost from_gives = { λ t a. a ≡ answer_of t };
+
+    fn from(t: Tally) -> Answer {
+        match t.first {
+            None => Answer::Accepted(Place::Nothing),
+            Some(e) => Answer::Broken(e.rule, place_of(e.spot), t.total, t.written),
         }
     }
 }
 
+// What is said of a bundle that is not sound.
+impl From<Refusal> for Answer {
+    ghost from_gives = { λ r a. a ≡ refused_by r };
+
+    fn from(r: Refusal) -> Answer {
+        Answer::Refused(r.number, r.bundle, r.place)
+    }
+}
+
 // The judgement of sound bundles, whose certificates can be counted in 32 bits.
-fn judge_sound(
-    policy: Policy,
-    words: &[u64],
-    bytes: &[u8],
-    pwords: &[u64],
-    pbytes: &[u8],
-    report: &mut [u32],
-) -> Answer
-    requires { count_of words.now certs < 4294967296 }
-    ensures { Judging policy (chain_of words.now bytes.now) (lists_of pwords.now pbytes.now) report.old report.new result }
+fn judge_sound(case: Case, report: &mut [u32]) -> Answer
+    requires { count_of case.chain.words.now certs < 4294967296 }
+    ensures { Judging case.entry.policy (chain_in case.entry) (lists_in case.entry) report.old report.new result }
 {
-    let n = table::count(words, CERTS) as u32;
-    let t = writers::write_report(policy, n, words, bytes, pwords, pbytes, report);
-    answer_of(t)
+    let n = table::count(case.chain.words, CERTS) as u32;
+    Answer::from(writers::write_report(case, n, report))
 }
 
 // What follows from the check of the bundles. One that is not sound is refused, and the report stays as it was.
-fn judge_checked(
-    checked: Checked,
-    policy: Policy,
-    words: &[u64],
-    bytes: &[u8],
-    pwords: &[u64],
-    pbytes: &[u8],
-    report: &mut [u32],
-) -> Answer
-    requires { checked ≡ Sound → count_of words.now certs < 4294967296 }
-    ensures { Outcome policy (chain_of words.now bytes.now) (lists_of pwords.now pbytes.now) checked report.old report.new result }
+fn judge_checked(checked: Result<(), Refusal>, case: Case, report: &mut [u32]) -> Answer
+    requires { checked ≡ Ok tt → count_of case.chain.words.now certs < 4294967296 }
+    ensures { Outcome case.entry.policy (chain_in case.entry) (lists_in case.entry) checked report.old report.new result }
 {
     match checked {
-        Checked::Sound => judge_sound(policy, words, bytes, pwords, pbytes, report),
-        Checked::Refused(n, bundle, place) => Answer::Refused(n, bundle, place),
+        Ok(()) => judge_sound(case, report),
+        Err(refusal) => Answer::from(refusal),
     }
 }
 
 // Judges a chain as an OpenSSL client would.
-pub fn openssl(words: &[u64], bytes: &[u8], report: &mut [u32]) -> Answer
-    ensures { OpenSslJudged words.now bytes.now report.old report.new result }
+pub fn openssl(chain: Lent, report: &mut [u32]) -> Answer
+    ensures { OpenSslJudged chain.entry.words.now chain.entry.bytes.now report.old report.new result }
 {
-    let checked = sound::check_chain(words, bytes);
-    judge_checked(
-        checked,
-        Policy::OpenSsl,
-        words,
-        bytes,
-        &words[..0],
-        &bytes[..0],
-        report,
-    )
+    let case = Case {
+        policy: Policy::OpenSsl,
+        chain,
+        lists: NO_LISTS,
+    };
+    judge_checked(sound::check_chain(chain), case, report)
 }
 
 // The chain's bundle goes first.
-fn check_both(words: &[u64], bytes: &[u8], pwords: &[u64], pbytes: &[u8]) -> Checked
-    ensures { BothVerdict words.now bytes.now pwords.now pbytes.now result }
+fn check_both(chain: Lent, lists: Lent) -> Result<(), Refusal>
+    ensures { BothVerdict chain.entry.words.now chain.entry.bytes.now lists.entry.words.now lists.entry.bytes.now result }
 {
-    let checked = sound::check_chain(words, bytes);
-    match checked {
-        Checked::Sound => sound::check_policy(pwords, pbytes),
-        Checked::Refused(n, bundle, place) => Checked::Refused(n, bundle, place),
-    }
+    sound::check_chain(chain)?;
+    sound::check_policy(lists)
 }
 
 // Judges a chain as a Chrome client would, by the lists of the policy's bundle.
-pub fn chrome(
-    words: &[u64],
-    bytes: &[u8],
-    pwords: &[u64],
-    pbytes: &[u8],
-    report: &mut [u32],
-) -> Answer
-    ensures { ChromeJudged words.now bytes.now pwords.now pbytes.now report.old report.new result }
+pub fn chrome(chain: Lent, lists: Lent, report: &mut [u32]) -> Answer
+    ensures { ChromeJudged chain.entry.words.now chain.entry.bytes.now lists.entry.words.now lists.entry.bytes.now report.old report.new result }
 {
-    let checked = check_both(words, bytes, pwords, pbytes);
-    judge_checked(
-        checked,
-        Policy::Chrome,
-        words,
-        bytes,
-        pwords,
-        pbytes,
-        report,
-    )
+    let case = Case {
+        policy: Policy::Chrome,
+        chain,
+        lists,
+    };
+    judge_checked(check_both(chain, lists), case, report)
 }

@@ -6,4 +6,4 @@ pub overflow_cast-n : goal.overflow_cast-n
 overflow_cast-n c = omega (arith, c.count-n.ensures, c.requires)
 
 pub returns : goal.returns
-returns c = judging _ _ _ c.count-n.ensures c.write_report-t.ensures c.answer_of.ensures
+returns c = judging _ _ _ c.count-n.ensures c.write_report.ensures c.from.ensures
