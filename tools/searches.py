@@ -1,5 +1,4 @@
-"""The proofs of functions that look at one thing after the other: in crate sections the sections, in crate lines lines and groups of
-lines."""
+"""The proofs of functions of crate lines that look at one thing after the other: at lines, and at groups of lines."""
 
 from collections import Counter
 
@@ -17,7 +16,6 @@ LINES = {
     "lists_out": 2 * [ROWS] + 9 * [RANGE],
     "entries_high": 3 * [LIST],
 }
-SECTIONS = {"chain_misplaced": ("chain_header", 6), "policy_misplaced": ("policy_header", 2)}
 GROUPS = {
     "chain_wrong": ["tables_out", "cert_strings_out", "cert_ranges_out", "codes_over", "marks_over", "names_high"],
     "policy_wrong": ["lists_out", "entries_high"],
@@ -43,15 +41,6 @@ def of_lines(name, calls):
     return sheets("lines", name, HEAD, uses, {"returns": one_by_one("(found_in _ _)", calls)})
 
 
-def of_sections(name, header, count):
-    uses = [
-        f"Rattle.model.specs.Sections.{{{header}}}",
-        "Rattle.sections.specs.Placed.{found_section}",
-        "Rattle.sections.proofs.Each.{each_more, each_done}",
-    ]
-    return sheets("sections", name, HEAD, uses, {"returns": one_by_one(f"(found_section {header} _)", count * ["with_section"])})
-
-
 def of_groups(name, groups):
     rest = lambda k: groups[k] if k == len(groups) - 1 else f"({groups[k]} ++ {rest(k + 1)})"
     *facts, last = ensured(groups)
@@ -71,6 +60,4 @@ def files():
         made |= of_lines(name, calls)
     for name, groups in GROUPS.items():
         made |= of_groups(name, groups)
-    for name, section in SECTIONS.items():
-        made |= of_sections(name, *section)
     return made
