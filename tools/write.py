@@ -9,10 +9,9 @@ import loops
 import obeying
 import reports
 import row_loops
-import searches
 import stated
 
-MAKERS = [bundles, byte_table, loops, obeying, reports, row_loops, searches, stated]
+MAKERS = [bundles, byte_table, loops, obeying, reports, row_loops, stated]
 TOP = pathlib.Path(__file__).resolve().parent.parent
 
 
