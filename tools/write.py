@@ -8,10 +8,9 @@ import byte_table
 import chains
 import obeying
 import reports
-import searches
 import stated
 
-MAKERS = [bundles, byte_table, chains, obeying, reports, searches, stated]
+MAKERS = [bundles, byte_table, chains, obeying, reports, stated]
 TOP = pathlib.Path(__file__).resolve().parent.parent
 
 

@@ -2,17 +2,16 @@
 use mathlib.Core.Path.{◌≡◌, refl, sym, ap, ◌∙◌}
 use mathlib.Core.List.{List, [], ◌∷◌, ◌++◌}
 use Rattle.std.specs.declared.option.Option.{Option}
+use Rattle.std.specs.List.{fold}
 use Rattle.sections.specs.declared.Fault.{Fault}
 use Rattle.sections.specs.Found.{earlier_of, found_each}
 
 module _ {A : Type 0} (found : A → Option Fault) where
-  pub each_more : (x : A) (xs : List A) (f : Option Fault) {g r : Option Fault} → g ≡ earlier_of f (found x) → r ≡ found_each found g xs → r ≡ found_each found f (x ∷ xs)
+  -- as `fold` looks at them
+  pub each_fold : (f : Option Fault) (xs : List A) → fold (λ g x. earlier_of g (found x)) f xs ≡ found_each found f xs
   unfolding found_each
-  each_more x xs f e t = t ∙ ap (λ (h : Option Fault). found_each found h xs) e
-
-  pub each_done : {r : Option Fault} → r ≡ found_each found r []
-  unfolding found_each
-  each_done = refl
+  each_fold f [] = refl
+  each_fold f (x ∷ xs) = each_fold (earlier_of f (found x)) xs
 
   -- first some, then the others
   each_both : (xs ys : List A) (f : Option Fault) → found_each found f (xs ++ ys) ≡ found_each found (found_each found f xs) ys

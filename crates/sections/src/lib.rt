@@ -68,22 +68,27 @@ fn with_section(words: &[u64], header: usize, f: Option<Fault>, s: Section) -> O
     f
 }
 
+// The first misplaced of some sections.
+fn first_misplaced(words: &[u64], header: usize, sections: &[Section]) -> Option<Fault>
+    ensures { result ≡ found_each (found_section header words.now) None sections.now }
+{
+    sections
+        .iter()
+        .fold(None, |f, s| with_section(words, header, f, *s))
+}
+
 // The first misplaced section of a chain bundle.
 pub fn chain_misplaced(words: &[u64]) -> Option<Fault>
     ensures { result ≡ found_each (found_section chain_header words.now) None chain_sections }
 {
-    let f = with_section(words, CHAIN_HEADER, None, STRINGS);
-    let f = with_section(words, CHAIN_HEADER, f, ATTRIBUTES);
-    let f = with_section(words, CHAIN_HEADER, f, RDNS);
-    let f = with_section(words, CHAIN_HEADER, f, NAMES);
-    let f = with_section(words, CHAIN_HEADER, f, USAGES);
-    with_section(words, CHAIN_HEADER, f, CERTS)
+    let sections = [STRINGS, ATTRIBUTES, RDNS, NAMES, USAGES, CERTS];
+    first_misplaced(words, CHAIN_HEADER, &sections)
 }
 
 // The same of a policy bundle.
 pub fn policy_misplaced(words: &[u64]) -> Option<Fault>
     ensures { result ≡ found_each (found_section policy_header words.now) None policy_sections }
 {
-    let f = with_section(words, POLICY_HEADER, None, STRINGS);
-    with_section(words, POLICY_HEADER, f, ENTRIES)
+    let sections = [STRINGS, ENTRIES];
+    first_misplaced(words, POLICY_HEADER, &sections)
 }

@@ -1,4 +1,3 @@
--- Written by tools/searches.py. Assumes nothing.
 use mathlib.Core.List.{◌++◌}
 use Rattle.sections.proofs.Each.{each_then}
 use Rattle.search.specs.Found.{found_in}

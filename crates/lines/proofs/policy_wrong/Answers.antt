@@ -1,4 +1,3 @@
--- Written by tools/searches.py. Assumes nothing.
 use Rattle.sections.proofs.Each.{each_then}
 use Rattle.search.specs.Found.{found_in}
 use Rattle.lines.specs.Tables.{lists_out, entries_high}
