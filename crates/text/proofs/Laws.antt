@@ -19,7 +19,14 @@ use Rattle.text.specs.Texts.{Text, quoted, lowered, taken_byte, taken, starts_wi
 use Rattle.text.specs.declared.Letters.{Letters}
 use Rattle.text.specs.declared.Letters.TheVariants.{AsGiven, Lowered}
 
--- ---- lowering
+-- ---- a pattern's byte against a name's, by how the letters are taken
+module _ (letters : Letters) (x y : ℕ) where
+  pub as_given : letters ≡ AsGiven → {r : ℕ} → r ≡ lower_byte y → eqb x r ≡ eqb (taken_byte letters x) (lower_byte y)
+  as_given e t = rw (e, t) refl
+
+  pub both_lowered : letters ≡ Lowered → {r : Bool} → r ≡ eqb (lower_byte x) (lower_byte y) → r ≡ eqb (taken_byte letters x) (lower_byte y)
+  both_lowered e t = t ∙ rw e refl
+
 -- a character that lowering keeps, seen from the pattern's side
 taken_is : (letters : Letters) (k : ℕ) → ((x : ℕ) → eqb (lower_byte x) k ≡ eqb x k) → (x : ℕ) → eqb k (taken_byte letters x) ≡ eqb k x
 taken_is AsGiven k e x = refl
@@ -29,7 +36,7 @@ pub taken_each : (letters : Letters) (p n : Text) → eq_list (taken letters p) 
 unfolding taken lowered
 taken_each letters p n = each_map eqb (taken_byte letters) lower_byte p n
 
--- lowering keeps the length and goes with parts
+-- ---- lowering keeps the length and goes with parts
 pub lowered_length : (s : Text) → length (lowered s) ≡ length s
 unfolding lowered
 lowered_length s = length-map s lower_byte

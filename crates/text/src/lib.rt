@@ -1,8 +1,9 @@
 // Bytes as text. Nothing is copied: a text is a part of the bytes that somebody lends.
 #![tactic(auto)]
 
-ghost use Rattle.std.specs.Prelude.{◌≡◌};
+ghost use Rattle.std.specs.Prelude.{◌≡◌, eqb};
 ghost use Rattle.laws.specs.Lists.{eq_list};
+ghost use Rattle.ascii.specs.Bytes.{lower_byte};
 ghost use Rattle.text.specs.Texts.{taken_byte, taken, lowered, starts_with, ends_with, match_dns_name};
 
 // How a pattern's letters are taken: as they stand, or lowered. An enum and no closure: contracts name the case, and a closure would be asked whether it may be called, which no public function asks.
@@ -19,27 +20,31 @@ pub fn same(a: &[u8], b: &[u8]) -> bool
     a == b
 }
 
-// A pattern's byte, its letter taken as said.
-fn taken(letters: Letters, x: u8) -> u8
-    ensures { result ≡ taken_byte letters x }
+// Whether two bytes are equal once they are lowered.
+fn lowered_equal(x: u8, y: u8) -> bool
+    ensures { result ≡ eqb (lower_byte x) (lower_byte y) }
+{
+    if x == y {
+        return true;
+    }
+    ascii::lower(x) == ascii::lower(y)
+}
+
+// Whether a pattern's byte, its letter taken as said, is a name's lowered byte.
+fn taken_equal(letters: Letters, x: u8, y: u8) -> bool
+    ensures { result ≡ eqb (taken_byte letters x) (lower_byte y) }
 {
     match letters {
-        Letters::AsGiven => x,
-        Letters::Lowered => ascii::lower(x),
+        Letters::AsGiven => x == ascii::lower(y),
+        Letters::Lowered => lowered_equal(x, y),
     }
 }
 
-// Whether a pattern, its letters taken as said, is the lowered name. The chain has no way out, so that it is compiled to compare many bytes at once.
+// Whether a pattern, its letters taken as said, is the lowered name.
 pub fn same_lowered(letters: Letters, p: &[u8], n: &[u8]) -> bool
     ensures { result ≡ eq_list (taken letters p.now) (lowered n.now) }
 {
-    if p.len() != n.len() {
-        return false;
-    }
-    p.iter().zip(n).fold(
-        true,
-        |same, (x, y)| same & (taken(letters, *x) == ascii::lower(*y)),
-    )
+    p.len() == n.len() && p.iter().zip(n).all(|(x, y)| taken_equal(letters, *x, *y))
 }
 
 // Whether s begins with r, both as they stand.
