@@ -8,7 +8,9 @@ ghost use Rattle.udrasmil.specs.Boundary.{OpenSslAnswered, ChromeAnswered};
 
 use judge::Answer;
 use sound::{Bundle, Place};
+use table::Lent;
 
+// 0 for the chain's bundle, 1 for the policy's. It can't be a From: both types are of crates below.
 fn bundle_number(b: Bundle) -> u64
     ensures { result ≡ bundle_number b }
 {
@@ -18,80 +20,48 @@ fn bundle_number(b: Bundle) -> u64
     }
 }
 
-fn place_kind(q: Place) -> u64
-    ensures { result ≡ place_kind q }
+// A place's kind and its two values, 0 where there is none.
+fn place_words(q: Place) -> [u64; 3]
+    ensures { result ≡ place_kind q ∷ place_first q ∷ place_second q ∷ [] }
 {
     match q {
-        Place::Nothing => 0,
-        Place::Word(_) => 1,
-        Place::Certificate(_) => 2,
-        Place::Pair(_, _) => 3,
+        Place::Nothing => [0, 0, 0],
+        Place::Word(p) => [1, p as u64, 0],
+        Place::Certificate(i) => [2, i.0 as u64, 0],
+        Place::Pair(i, j) => [3, i.0 as u64, j.0 as u64],
     }
 }
 
-fn place_first(q: Place) -> u64
-    ensures { result ≡ place_first q }
-{
-    match q {
-        Place::Nothing => 0,
-        Place::Word(p) => p as u64,
-        Place::Certificate(i) => i.0 as u64,
-        Place::Pair(i, _) => i.0 as u64,
-    }
-}
-
-fn place_second(q: Place) -> u64
-    ensures { result ≡ place_second q }
-{
-    match q {
-        Place::Nothing => 0,
-        Place::Word(_) => 0,
-        Place::Certificate(_) => 0,
-        Place::Pair(_, j) => j.0 as u64,
-    }
-}
-
-fn put(
-    number: u64,
-    bundle: u64,
-    place: Place,
-    rule: u64,
-    total: u64,
-    written: u64,
-    answer: &mut [u64; 8],
-)
-    ensures { answer.new ≡ number ∷ bundle ∷ place_kind place ∷ place_first place ∷ place_second place ∷ rule ∷ total ∷ written ∷ [] }
-{
-    *answer = [
-        number,
-        bundle,
-        place_kind(place),
-        place_first(place),
-        place_second(place),
-        rule,
-        total,
-        written,
-    ];
-}
-
-fn put_answer(a: Answer, answer: &mut [u64; 8])
-    ensures { answer.new ≡ answer_words a }
+// An answer's number and values: number, bundle, kind of place, its two values, rule, total, entries written.
+fn answer_words(a: Answer) -> [u64; 8]
+    ensures { result ≡ answer_words a }
 {
     match a {
-        Answer::Accepted(place) => put(0, 0, place, 0, 0, 0, answer),
-        Answer::Broken(rule, place, total, written) => put(
-            1,
-            0,
-            place,
-            rule.0 as u64,
-            total as u64,
-            written as u64,
-            answer,
-        ),
-        Answer::Refused(n, bundle, place) => put(n, bundle_number(bundle), place, 0, 0, 0, answer),
+        Answer::Accepted(place) => {
+            let [kind, first, second] = place_words(place);
+            [0, 0, kind, first, second, 0, 0, 0]
+        }
+        Answer::Broken(rule, place, total, written) => {
+            let [kind, first, second] = place_words(place);
+            [
+                1,
+                0,
+                kind,
+                first,
+                second,
+                rule.0 as u64,
+                total as u64,
+                written as u64,
+            ]
+        }
+        Answer::Refused(n, bundle, place) => {
+            let [kind, first, second] = place_words(place);
+            [n, bundle_number(bundle), kind, first, second, 0, 0, 0]
+        }
     }
 }
 
+// OpenSSL's judge. What it takes is the C interface's, slice by slice.
 pub fn udrasmil_judge_openssl(
     words: &[u64],
     bytes: &[u8],
@@ -100,10 +70,10 @@ pub fn udrasmil_judge_openssl(
 )
     ensures { OpenSslAnswered words.now bytes.now report.old report.new answer.new }
 {
-    let a = judge::openssl(words, bytes, report);
-    put_answer(a, answer);
+    *answer = answer_words(judge::openssl(Lent { words, bytes }, report));
 }
 
+// Chrome's judge, by the C interface as well.
 pub fn udrasmil_judge_chrome(
     words: &[u64],
     bytes: &[u8],
@@ -114,6 +84,10 @@ pub fn udrasmil_judge_chrome(
 )
     ensures { ChromeAnswered words.now bytes.now pwords.now pbytes.now report.old report.new answer.new }
 {
-    let a = judge::chrome(words, bytes, pwords, pbytes, report);
-    put_answer(a, answer);
+    let chain = Lent { words, bytes };
+    let lists = Lent {
+        words: pwords,
+        bytes: pbytes,
+    };
+    *answer = answer_words(judge::chrome(chain, lists, report));
 }
