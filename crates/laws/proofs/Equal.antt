@@ -1,9 +1,9 @@
 -- Two lists in step: what agreement of each with its partner means, and equality of lists of numbers as a test. Assumes nothing.
 use Prim.Native.Nat.{ℕ, zero, suc, ◌≤◌, ◌<◌}
 use native.Mathlib.Omega.{arith}
-use mathlib.Core.Path.{◌≡◌, refl, sym, ap, ap₂, ◌∙◌}
+use mathlib.Core.Path.{◌≡◌, refl, ap, ap₂}
 use mathlib.Core.List.{List, [], ◌∷◌, map}
-use mathlib.Core.Bool.{Bool, true, false, ◌&&◌, and-false, true≢false, false≢true}
+use mathlib.Core.Bool.{Bool, true, false, ◌&&◌, and-false, false≢true}
 use borrow.Author.Tests.{eq-eqb, eqb-true}
 use lib.Dec.{eqb}
 use lib.ListN.{length, get_or}
@@ -57,13 +57,6 @@ module _ {A B : Type 0} (p : A → B → Bool) where
     index_front [] b l h = refl
     index_front (x ∷ a) [] l h = absurd (omega arith)
     index_front (x ∷ a) (y ∷ b) l h = rw (h zero (omega arith)) (index_front a b (omega arith) (λ k m. h (suc k) (omega arith)))
-
-  -- one place at which two lists differ
-  pub each_differs : (d : A) (f : B) (a : List A) (b : List B) (k : ℕ) → k < length a → p (get_or a k d) (get_or b k f) ≡ false → each p a b ≡ false
-  each_differs d f a b k l e = go (each p a b) refl where
-    go : (t : Bool) → each p a b ≡ t → t ≡ false
-    go true h = absurd (true≢false (sym (each_index d f a b h k l) ∙ e))
-    go false h = refl
 
 -- lists that are changed first, one by one, are compared by a changed test
 pub each_map : {A B C D : Type 0} (p : C → D → Bool) (f : A → C) (g : B → D) (a : List A) (b : List B) → each p (map f a) (map g b) ≡ each (λ x y. p (f x) (g y)) a b
