@@ -1,14 +1,14 @@
 -- The tests of a word, as the code asks them. Assumes nothing.
-use Prim.Native.Nat.{ℕ, ◌+◌, ◌-◌, ◌≤◌, ◌<◌, min}
+use Prim.Native.Nat.{ℕ, ◌+◌, ◌-◌, ◌≤◌, min}
 use native.Mathlib.Omega.{arith}
 use mathlib.Core.Path.{◌≡◌, refl, sym, ap, ap₂, ◌∙◌}
 use native.Mathlib.Decide.{dec_lt}
 use mathlib.Core.Logic.{◌⊎◌, inl, inr, ⊎_elim}
 use mathlib.Core.List.{List}
-use mathlib.Core.Bool.{Bool, true, false, ◌&&◌, ◌||◌, or-false}
+use mathlib.Core.Bool.{Bool, false, ◌&&◌, ◌||◌, or-false}
 use lib.Dec.{eqb, ltb}
 use lib.ListN.{length}
-use borrow.Author.Tests.{lt-ltb, le-ltb, ne_eqb}
+use borrow.Author.Tests.{le-ltb, ne_eqb}
 use Rattle.table.specs.Table.{word}
 use Rattle.table.specs.declared.Section.{Section}
 use Rattle.table.proofs.Laws.{word_past}
@@ -20,17 +20,6 @@ use Rattle.row_tests.specs.Wrong.{no_string, no_optional, no_range, over, there,
 -- a test that is known: what it says is what was asked
 pub by_test : (t s : Test) (w b : List ℕ) (q j : ℕ) {r : Bool} → t ≡ s → r ≡ wrong s w b q j → r ≡ wrong t w b q j
 by_test t s w b q j e h = h ∙ ap (λ (x : Test). wrong x w b q j) (sym e)
-
--- a range against a count, without its sum
-module _ (first n count : ℕ) where
-  pub first_past : count < first → true ≡ ltb count (first + n)
-  first_past h = sym (lt-ltb count (first + n) (omega arith))
-
-  pub sum_past : first ≤ count → ltb (count - first) n ≡ ltb count (first + n)
-  sum_past h = elim (dec_lt (count - first) n) [
-    | yes l ↦ lt-ltb (count - first) n l ∙ sym (lt-ltb count (first + n) (omega arith))
-    | no m ↦ le-ltb (count - first) n (omega arith) ∙ sym (le-ltb count (first + n) (omega arith))
-  ]
 
 -- two words past the end
 pub words_past : (count : ℕ) (w : List ℕ) (p : ℕ) → length w ≤ p → false ≡ ltb count (word w p + word w (p + 1))

@@ -166,10 +166,7 @@ fn optional_high(lent: Lent, p: usize) -> bool
 fn within(words: &[u64], q: usize) -> usize
     ensures { result ≡ min q (length words.now) }
 {
-    if words.len() < q {
-        return words.len();
-    }
-    q
+    q.min(words.len())
 }
 
 // The same as `is_wrong` of a row that does not begin past the end, so that no sum wraps.
