@@ -77,7 +77,7 @@ fn ranges_fit(words: &[u64], q: usize, k: Counts) -> bool
         & part_range_fits(words, q + 33, q + 36, k.names)
 }
 
-// Whether the certificate at q has one of the nine parts.
+// Whether the certificate at q has one of the nine parts. Not row_tests' own, which has to test each word's place: here the row lies in the words.
 fn some_part(words: &[u64], q: usize) -> bool
     requires { q + certRows.size ≤ length words.now }
     ensures { result ≡ some_part words.now q }

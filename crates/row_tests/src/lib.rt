@@ -52,14 +52,21 @@ pub fn ends_past(first: u64, n: u64, count: u64) -> bool
     count - first < n
 }
 
-// Whether words p and p + 1, first and count, are no range of the section.
-pub fn no_range(words: &[u64], s: Section, p: usize) -> bool
-    ensures { result ≡ no_range words.now s p }
+// The same of the two words from p on. Behind the last word nothing is read: p + 1 could wrap.
+fn two_end_past(words: &[u64], p: usize, count: u64) -> bool
+    ensures { result ≡ ltb count (word_of words.now p + word_of words.now (p + 1)) }
 {
     if words.len() <= p {
         return false;
     }
-    ends_past(word(words, p), word(words, p + 1), table::count(words, s))
+    ends_past(word(words, p), word(words, p + 1), count)
+}
+
+// Whether words p and p + 1, first and count, are no range of the section.
+pub fn no_range(words: &[u64], s: Section, p: usize) -> bool
+    ensures { result ≡ no_range words.now s p }
+{
+    two_end_past(words, p, table::count(words, s))
 }
 
 // Whether word p is above a number.
@@ -87,14 +94,7 @@ fn high_string(lent: Lent, n: StringNo) -> bool
 pub fn string_out(lent: Lent, p: usize) -> bool
     ensures { result ≡ string_out lent.entry.words.now lent.entry.bytes.now p }
 {
-    if lent.words.len() <= p {
-        return false;
-    }
-    ends_past(
-        word(lent.words, p),
-        word(lent.words, p + 1),
-        lent.bytes.len() as u64,
-    )
+    two_end_past(lent.words, p, lent.bytes.len() as u64)
 }
 
 // Whether the name at q has an x, or an x and y, that its kind does not allow.
