@@ -18,7 +18,7 @@ pub enum Covering {
     Cleaned,
 }
 
-// Where names and strings begin, the name before which a loop ends, and how many strings there are.
+// Where names and strings begin, the name before which a loop ends, and how many strings there are. They are read where they stand in the lent words.
 #[derive(Clone, Copy)]
 struct Rows {
     names: u64,
@@ -47,6 +47,7 @@ fn fits(total: u64, at: u64, size: u64, n: u64) -> bool
     n <= (total - at) / size
 }
 
+// The kind as its word, as `general_names::kind` has it.
 fn kind_in(words: &[u64], at: Rows, n: NameNo) -> u64
     requires { Inside words.now at × (n.0 < at.end) }
     ensures { result ≡ kind_at words.now n.0 }

@@ -9,7 +9,7 @@ pub const ENTRIES: Section = Section { count: 3, size: 1 };
 // The word of the header at which the ranges of the lists begin: two words each.
 pub const LISTS_FROM: usize = 5;
 
-// The number of a list.
+// The number of a list. A number and no enum: the header holds the ranges of the lists by it.
 #[derive(Clone, Copy)]
 pub struct ListNo(pub usize);
 

@@ -80,7 +80,7 @@ fn chrome_places(rule: RuleNo) -> Places
     }
 }
 
-// Where a policy asks a rule.
+// Where a policy asks a rule. Two tables, and a match that chooses, as the definition has them (`places_of`).
 pub fn places_of(policy: Policy, rule: RuleNo) -> Places
     ensures { result ≡ places_of policy rule.0 }
 {

@@ -169,7 +169,7 @@ fn within(words: &[u64], q: usize) -> usize
     q.min(words.len())
 }
 
-// The same as `is_wrong` of a row that does not begin past the end, so that no sum wraps.
+// The same as `is_wrong` of a row that does not begin past the end, so that no sum wraps. A match and no closures: a line's test is data, and `wrong` goes by its case.
 fn is_wrong_within(lent: Lent, t: Test, q: usize, j: u8) -> bool
     requires { q ≤ length lent.words.now }
     ensures { result ≡ wrong t lent.entry.words.now lent.entry.bytes.now q j }

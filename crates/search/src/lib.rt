@@ -29,7 +29,7 @@ pub struct Line {
     pub test: Test,
 }
 
-// Rows of words: where the first begins, how long they are, how many.
+// Rows of words: where the first begins, how long they are, how many. They are read where they stand in the lent words.
 #[derive(Clone, Copy)]
 pub struct Rows {
     pub at: usize,

@@ -19,11 +19,11 @@ pub struct StringNo(pub u64);
 #[derive(Clone, Copy)]
 pub struct CertPos(pub u32);
 
-// The number of a rule.
+// The number of a rule. Document 01 names the form, and a report has the number.
 #[derive(Clone, Copy)]
 pub struct RuleNo(pub u32);
 
-// Where a section stands: the word of the header that holds its count (the next holds its offset), and the words of a row.
+// Where a section stands: the word of the header that holds its count (the next holds its offset), and the words of a row. No slice of rows: they are read where they stand in the lent words.
 #[derive(Clone, Copy)]
 pub struct Section {
     pub count: usize,
