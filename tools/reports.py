@@ -3,7 +3,7 @@ report, and the tables by a rule's number.
 
 What each crate that has tables lends, and its tables, are a row of TABLES; what differs from loop to loop is a row of LOOPS."""
 
-from sheets import sheets
+from sheets import sheet, sheets
 
 # The crates that have the tables. specs: where their definitions stand. opens: what has to be seen through to see the test's cases, in the crate that has it. arms: for each function that goes by
 # a rule's number the definition that it computes, and by the number the function that each arm calls (None: a value). policies: for each function that goes by the policy the
@@ -51,21 +51,21 @@ TABLES = {
     },
 }
 
-# Where a loop has nothing to do: the law that nothing is owed then, and how it is told.
+# Where a run of turns has nothing to do: the law that nothing is owed then, and how it is told.
 EACH_EARLY = ("not-any_breaks", "each_unbroken _ _ _ _ _ c.any_breaks.ensures (ap not c.if-not-any_breaks.true)")
 ROW_EARLY = ("asks_nothing", "row_unasked _ _ _ _ _ _ (sym c.asks_nothing.ensures ∙ c.if-asks_nothing.true)")
 
-# The test of a rule at a spot.
-T = "(broken_by l.case)"
+# The test of a rule at a spot, and the rule, as a turn's closure has them; and the policy's places.
+T, R = "(broken_by a.write.0.now)", "a.write.1.now.0"
+PLACES = "(places_of a.write.0.now.policy k)"
 
-# What a turn calls and writes (k stands for the turn), the loop's variable, what has to be seen through at the end, and of a loop that starts at a parameter its bound
-# and the law by which it counts. skips: a turn that wrote nothing is not joined. early: what is asked before the loop.
-LOOPS = {
-    "write_each": {"call": "write_one", "turn": f"asked {T} l.rule.0 (certificate (l.initial.i + k))", "var": "i", "bound": "l.to", "law": "each_turn", "early": EACH_EARLY},
-    "write_neighbours": {"call": "write_one", "turn": f"asked {T} l.rule.0 (pair k (k + 1))", "var": "i"},
-    "write_row": {"call": "write_one", "turn": f"asked {T} l.rule.0 (pair l.i.0 k)", "var": "j", "opens": "row", "early": ROW_EARLY},
-    "write_pairs": {"call": "write_row", "turn": f"row {T} l.rule.0 (l.initial.i + k) (l.initial.i + k)", "var": "i", "bound": "l.to", "law": "pairs_turn"},
-    "write_rules": {"call": "write_rule", "turn": f"entries_at {T} (places_of l.case.policy k) k l.n", "var": "r", "opens": "index", "skips": True},
+# What turn k writes, what has to be seen through at the end, and what is asked before the turns.
+TURNS = {
+    "write_each": {"turn": f"asked {T} {R} (certificate k)", "early": EACH_EARLY},
+    "write_neighbours": {"turn": f"asked {T} {R} (pair k (k + 1))"},
+    "write_row": {"turn": f"asked {T} {R} (pair a.write.2.now.0 k)", "opens": "row", "early": ROW_EARLY},
+    "write_pairs": {"turn": f"row {T} {R} k k"},
+    "write_rules": {"turn": f"entries_at {T} {PLACES} k a.write.1.now", "opens": "index"},
 }
 
 # The cases of a rule's places: the writer that each calls, and what it takes besides that the writer's entries don't name.
@@ -83,50 +83,33 @@ def proof(crate, function, says, uses, answers, invariants=None):
     return sheets(crate, function, f"-- {says} Written by tools/reports.py. Assumes nothing.", uses, answers, invariants)
 
 
-def invariant(kind):
-    """What a loop keeps: what is written so far, and before it, of a loop that starts at a parameter, how far it has come."""
-    done, far = f"l.{kind['var']}", ""
-    if "law" in kind:
-        begun = f"l.initial.{kind['var']}"
-        far, done = f"({done} - {begun} ≤ {kind['bound']} - {begun}) × ", f"({done} - {begun})"
-    return f"{far}SoFar (λ k. {kind['turn']}) {done} l.initial.report l.report l.tally"
-
-
-LOOP_USES = [
-    "Prim.Native.Nat.{◌+◌, ◌-◌, ◌≤◌}",
+TURN_USES = [
+    "Rattle.std.proofs.Common.{rules}",
+    "Prim.Native.Nat.{◌+◌}",
     "native.Mathlib.Omega.{arith}",
-    "mathlib.Core.Path.{refl, sym, ap, ◌∙◌}",
+    "mathlib.Core.Path.{sym, ap, ◌∙◌}",
     "mathlib.Core.Bool.{not}",
+    "contract.BorrowLft.{⊑_meet, ⊑_static}",
     "Rattle.faults.specs.Report.{certificate, pair}",
     "Rattle.faults.specs.Index.{asked, row, entries_at, index}",
-    "Rattle.faults.proofs.Laws.{SoFar, so_far_none, so_far_more, so_far_same, each_turn, pairs_turn, so_far_done}",
-    "Rattle.policies.specs.Tables.{places_of, rules}",
+    "Rattle.policies.specs.Tables.{places_of}",
     "Rattle.rules.specs.Rules.{broken_by}",
     "Rattle.writers.proofs.Laws.{each_unbroken, row_unasked}",
 ]
 
 
-def loop(function, kind):
-    """A loop that lends the tail of the report to one writer a turn."""
-    name, law = f"loop-{kind['var']}", kind.get("law")
-    far, kept = ("omega arith, ", f"c.{name}.invariant.1") if law else ("", f"c.{name}.invariant")
-    same = f"({law} _ _ c.{name}.auto.{kind['var']})" if law else "refl"
-    wrote = f"_ (omega arith) {kept} c.{kind['call']}-t.ensures {same}"
-    more, uses = f"so_far_more {wrote} c.joined-tally.ensures", LOOP_USES
-    if "skips" in kind:
-        joined = f"then-t-ne0 w ↦ so_far_more {wrote} (w.tally-is ∙ w.joined-tally.ensures)"
-        stays = f"else-t-ne0 w ↦ rw w.tally-is (so_far_same {wrote} w.if-t-ne0.false)"
-        more = f"elim c.if-t-ne0.branch [ {joined} | {stays} ]"
-        uses = [*LOOP_USES, f"Rattle.writers.proofs.{function}.Goals.{{then-t-ne0, else-t-ne0}}"]
+def turns(function, kind):
+    """A run of turns: what each may be asked, what it writes, and that nothing else is lent for longer."""
     asked, early = kind.get("early", (None, None))
-    turn = lambda so_far: f"({far}{so_far})" if far else so_far
+    lent = "search (⊑_meet, ⊑_static, within.0, within.1.0, within.1.1.0) depth 14 fits 20000"
     answers = {
         **({f"returns-then-{asked}": early} if asked else {}),
-        f"{name}-init": turn("so_far_none _ _ _ (omega arith) (omega arith)"),
-        f"{name}-preserved": turn(more),
-        "returns": (kind.get("opens"), f"so_far_done _ {kept} (omega arith)"),
+        "write_turns-requires": f"λ κs within. ({lent}, (λ i s l. search (rules, arith), λ i s t s' e. search rules))",
+        **({"returns": (kind["opens"], "search rules")} if "opens" in kind else {}),
     }
-    return proof("writers", function, "Each turn writes into what the turns before it left free.", uses, answers, {f"invariant-{name}": invariant(kind)})
+    home, head = f"Rattle.writers.proofs.{function}.Given", "-- What each turn writes. Written by tools/reports.py. Assumes nothing."
+    pick = sheet(head, TURN_USES, home, ("abbrev pub", "a"), {"ghost-write_turns": f"λ k. {kind['turn']}"})
+    return proof("writers", function, "Each turn writes its part.", TURN_USES, answers) | {f"crates/writers/proofs/{function}/Invariants.antt": pick}
 
 
 def table(crate, row, function, definition, arms):
@@ -193,6 +176,6 @@ def files():
             made |= table(crate, row, function, definition, arms)
         for function, (definition, calls) in row["policies"].items():
             made |= by_policy(crate, row, function, definition, calls)
-    for function, kind in LOOPS.items():
-        made |= loop(function, kind)
+    for function, kind in TURNS.items():
+        made |= turns(function, kind)
     return made

@@ -194,15 +194,8 @@ module _ (f : ℕ → List Entry) where
   so_far_done p e = rw e p.wrote
 
 -- turn i - a of a loop that starts at a is the one at i
-module _ (T : ℕ → Spot → Bool) (r : ℕ) {a i : ℕ} (h : a ≤ i) where
-  from_is : a + (i - a) ≡ i
-  from_is = omega arith
-
-  pub each_turn : asked T r (certificate i) ≡ asked T r (certificate (a + (i - a)))
-  each_turn = rw from_is refl
-
-  pub pairs_turn : row T r i i ≡ row T r (a + (i - a)) (a + (i - a))
-  pairs_turn = rw from_is refl
+pub turn_is : (f : ℕ → List Entry) {a i : ℕ} → a ≤ i → f i ≡ f (a + (i - a))
+turn_is f {a} {i} h = let q : a + (i - a) ≡ i = omega arith in rw q refl
 
 -- ---- the whole index: of too few certificates, and of enough
 module _ (short : ℕ) (T : ℕ → Spot → Bool) (P : ℕ → Places) (rules n : ℕ) where

@@ -1,19 +1,14 @@
--- Each turn writes into what the turns before it left free. Written by tools/reports.py. Assumes nothing.
+-- Each turn writes its part. Written by tools/reports.py. Assumes nothing.
+use Rattle.std.proofs.Common.{rules}
 use native.Mathlib.Omega.{arith}
 use mathlib.Core.Path.{ap}
 use mathlib.Core.Bool.{not}
-use Rattle.faults.proofs.Laws.{so_far_none, so_far_more, each_turn, so_far_done}
+use contract.BorrowLft.{⊑_meet, ⊑_static}
 use Rattle.writers.proofs.Laws.{each_unbroken}
 use Rattle.writers.proofs.write_each.Goals as goal
 
 pub returns-then-not-any_breaks : goal.returns-then-not-any_breaks
 returns-then-not-any_breaks c = each_unbroken _ _ _ _ _ c.any_breaks.ensures (ap not c.if-not-any_breaks.true)
 
-pub loop-i-init : goal.loop-i-init
-loop-i-init c = (omega arith, so_far_none _ _ _ (omega arith) (omega arith))
-
-pub loop-i-preserved : goal.loop-i-preserved
-loop-i-preserved c = (omega arith, so_far_more _ (omega arith) c.loop-i.invariant.1 c.write_one-t.ensures (each_turn _ _ c.loop-i.auto.i) c.joined-tally.ensures)
-
-pub returns : goal.returns
-returns c = so_far_done _ c.loop-i.invariant.1 (omega arith)
+pub write_turns-requires : goal.write_turns-requires
+write_turns-requires c = λ κs within. (search (⊑_meet, ⊑_static, within.0, within.1.0, within.1.1.0) depth 14 fits 20000, (λ i s l. search (rules, arith), λ i s t s' e. search rules))

@@ -1,14 +1,8 @@
--- Each turn writes into what the turns before it left free. Written by tools/reports.py. Assumes nothing.
+-- Each turn writes its part. Written by tools/reports.py. Assumes nothing.
+use Rattle.std.proofs.Common.{rules}
 use native.Mathlib.Omega.{arith}
-use mathlib.Core.Path.{refl}
-use Rattle.faults.proofs.Laws.{so_far_none, so_far_more, so_far_done}
+use contract.BorrowLft.{⊑_meet, ⊑_static}
 use Rattle.writers.proofs.write_neighbours.Goals as goal
 
-pub loop-i-init : goal.loop-i-init
-loop-i-init c = so_far_none _ _ _ (omega arith) (omega arith)
-
-pub loop-i-preserved : goal.loop-i-preserved
-loop-i-preserved c = so_far_more _ (omega arith) c.loop-i.invariant c.write_one-t.ensures refl c.joined-tally.ensures
-
-pub returns : goal.returns
-returns c = so_far_done _ c.loop-i.invariant (omega arith)
+pub write_turns-requires : goal.write_turns-requires
+write_turns-requires c = λ κs within. (search (⊑_meet, ⊑_static, within.0, within.1.0, within.1.1.0) depth 14 fits 20000, (λ i s l. search (rules, arith), λ i s t s' e. search rules))

@@ -1,9 +1,7 @@
--- Each turn writes into what the turns before it left free. Written by tools/reports.py. Assumes nothing.
-use Prim.Native.Nat.{◌+◌, ◌-◌, ◌≤◌}
+-- What each turn writes. Written by tools/reports.py. Assumes nothing.
 use Rattle.faults.specs.Index.{row}
-use Rattle.faults.proofs.Laws.{SoFar}
 use Rattle.rules.specs.Rules.{broken_by}
 use Rattle.writers.proofs.write_pairs.Given as goal
 
-abbrev pub invariant-loop-i : goal.invariant-loop-i
-invariant-loop-i l = (l.i - l.initial.i ≤ l.to - l.initial.i) × SoFar (λ k. row (broken_by l.case) l.rule.0 (l.initial.i + k) (l.initial.i + k)) (l.i - l.initial.i) l.initial.report l.report l.tally
+abbrev pub ghost-write_turns : goal.ghost-write_turns
+ghost-write_turns a = λ k. row (broken_by a.write.0.now) a.write.1.now.0 k k

@@ -1,9 +1,8 @@
--- Each turn writes into what the turns before it left free. Written by tools/reports.py. Assumes nothing.
+-- What each turn writes. Written by tools/reports.py. Assumes nothing.
 use Rattle.faults.specs.Report.{pair}
 use Rattle.faults.specs.Index.{asked}
-use Rattle.faults.proofs.Laws.{SoFar}
 use Rattle.rules.specs.Rules.{broken_by}
 use Rattle.writers.proofs.write_row.Given as goal
 
-abbrev pub invariant-loop-j : goal.invariant-loop-j
-invariant-loop-j l = SoFar (λ k. asked (broken_by l.case) l.rule.0 (pair l.i.0 k)) l.j l.initial.report l.report l.tally
+abbrev pub ghost-write_turns : goal.ghost-write_turns
+ghost-write_turns a = λ k. asked (broken_by a.write.0.now) a.write.1.now.0 (pair a.write.2.now.0 k)

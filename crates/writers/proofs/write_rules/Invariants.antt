@@ -1,9 +1,8 @@
--- Each turn writes into what the turns before it left free. Written by tools/reports.py. Assumes nothing.
+-- What each turn writes. Written by tools/reports.py. Assumes nothing.
 use Rattle.faults.specs.Index.{entries_at}
-use Rattle.faults.proofs.Laws.{SoFar}
 use Rattle.policies.specs.Tables.{places_of}
 use Rattle.rules.specs.Rules.{broken_by}
 use Rattle.writers.proofs.write_rules.Given as goal
 
-abbrev pub invariant-loop-r : goal.invariant-loop-r
-invariant-loop-r l = SoFar (λ k. entries_at (broken_by l.case) (places_of l.case.policy k) k l.n) l.r l.initial.report l.report l.tally
+abbrev pub ghost-write_turns : goal.ghost-write_turns
+ghost-write_turns a = λ k. entries_at (broken_by a.write.0.now) (places_of a.write.0.now.policy k) k a.write.1.now
