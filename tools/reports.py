@@ -1,7 +1,7 @@
-"""The proofs of the functions that write a report: the loops over places and over rules, the writers of one entry, of one rule and of a whole
+"""The proofs of the functions that write a report: the turns over places and over rules, the writers of one entry, of one rule and of a whole
 report, and the tables by a rule's number.
 
-What each crate that has tables lends, and its tables, are a row of TABLES; what differs from loop to loop is a row of LOOPS."""
+What each crate that has tables lends, and its tables, are a row of TABLES; what differs from one run of turns to another is a row of TURNS."""
 
 from sheets import sheet, sheets
 
