@@ -2,22 +2,13 @@
 #![tactic(auto)]
 
 ghost use Rattle.std.specs.Prelude.{◌≡◌};
-ghost use Rattle.laws.specs.Lists.{eq_list};
-ghost use Rattle.table.specs.Table.{string_of};
 ghost use Rattle.model.specs.Decode.{aki_at, cert_at};
 ghost use Rattle.auth_key_id.specs.AuthKeyId.{key_id_is, same_key_id, same_serial, check_auth_key_id};
 
-use certs::cert_word;
 use certs::row::{AKI, AKI_KEY_ID, AKI_SERIAL, SERIAL, SKI, SKI_KEY_ID};
+use certs::{cert_string, cert_word};
 use model::chain::{CertRow, optional_string};
-use table::{Lent, StringNo};
-
-// Whether a string of a bundle is a text.
-fn string_is(chain: Lent, n: StringNo, s: &[u8]) -> bool
-    ensures { result ≡ eq_list (string_of chain.entry.words.now chain.entry.bytes.now n.0) s.now }
-{
-    text::same(table::string(chain, n), s)
-}
+use table::Lent;
 
 // Whether the issuer's SKI, if it has one, is the key id.
 fn key_id_is(chain: Lent, issuer: CertRow, k: &[u8]) -> bool
@@ -26,11 +17,7 @@ fn key_id_is(chain: Lent, issuer: CertRow, k: &[u8]) -> bool
     if cert_word(chain.words, issuer, SKI) == 0 {
         return true;
     }
-    string_is(
-        chain,
-        StringNo(cert_word(chain.words, issuer, SKI_KEY_ID)),
-        k,
-    )
+    text::same(cert_string(chain, issuer, SKI_KEY_ID), k)
 }
 
 // Whether the key id in the subject's AKI, if there is one, is the issuer's.
@@ -49,7 +36,7 @@ fn same_serial(chain: Lent, issuer: CertRow, subject: CertRow) -> bool
 {
     match optional_string(chain, cert_word(chain.words, subject, AKI_SERIAL)) {
         None => true,
-        Some(k) => string_is(chain, StringNo(cert_word(chain.words, issuer, SERIAL)), k),
+        Some(k) => text::same(cert_string(chain, issuer, SERIAL), k),
     }
 }
 

@@ -4,7 +4,7 @@
 #![tactic(auto)]
 
 use data_file::{Ended, Size};
-use sound::{Bundle, Place, Refusal};
+use sound::{Place, Refusal};
 use std::{fmt, io};
 use table::Lent;
 
@@ -75,10 +75,6 @@ impl Counts {
 // A refusal in the numbers of the file.
 impl From<Refusal> for Answer {
     fn from(r: Refusal) -> Answer {
-        let bundle = match r.bundle {
-            Bundle::Chain => 0,
-            Bundle::Policy => 1,
-        };
         let (kind, word) = match r.place {
             Place::Nothing => (0, 0),
             Place::Word(w) => (1, w as u64),
@@ -86,7 +82,7 @@ impl From<Refusal> for Answer {
             Place::Pair(_, _) => (3, 0),
         };
         Answer {
-            bundle,
+            bundle: u64::from(r.bundle),
             number: r.number,
             kind,
             word,

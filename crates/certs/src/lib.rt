@@ -4,10 +4,11 @@
 pub mod row;
 
 ghost use Rattle.std.specs.Prelude.{◌≡◌};
+ghost use Rattle.table.specs.Table.{string_of};
 ghost use Rattle.model.specs.Decode.{cert_word, cert_range, signed_of};
 
 use model::chain::{CERTS, CertRow, rows_named};
-use table::{Range, Section};
+use table::{Lent, Range, Section};
 
 // Word j of a certificate.
 pub fn cert_word(words: &[u64], c: CertRow, j: u64) -> u64
@@ -21,6 +22,13 @@ pub fn cert_range(words: &[u64], c: CertRow, j: u32, s: Section) -> Range
     ensures { result ≡ cert_range words.now c.0 j s }
 {
     rows_named(words, CERTS, c.0, j as u64, s)
+}
+
+// The string that word j of a certificate names.
+pub fn cert_string<'a>(chain: Lent<'a>, c: CertRow, j: u64) -> &'a [u8]
+    ensures { result.now ≡ string_of chain.entry.words.now chain.entry.bytes.now (cert_word chain.entry.words.now c.0 j) }
+{
+    table::string_named(chain, CERTS, c.0, j)
 }
 
 // The number that a word is in two's complement.

@@ -19,6 +19,9 @@ use model::chain::{CertRow, NAMES, NameNo, RDNS};
 use sans::Kind;
 use table::{Lent, Range};
 
+// The kind of names that no constraints allow.
+const OTHER: u64 = 3;
+
 // The names that a certificate permits below itself, and those that it excludes.
 #[derive(Clone, Copy)]
 pub struct NameConstraints {
@@ -105,20 +108,19 @@ fn asked_name(v: Covering, name: &[u8]) -> &[u8]
 fn nc_match(chain: Lent, nc: NameConstraints, v: Covering, n: NameNo) -> bool
     ensures { result ≡ nc_match v (generals_in chain.entry.words.now chain.entry.bytes.now nc.permitted) (generals_in chain.entry.words.now chain.entry.bytes.now nc.excluded) (general_at chain.entry.words.now chain.entry.bytes.now n.0) }
 {
-    let k = general_names::kind(chain.words, n);
-    if k == 0 {
-        let name = asked_name(v, general_names::name_text(chain, n));
-        return check_dns_name_constraints(chain, nc, v, name);
+    match Kind::try_from(general_names::kind(chain.words, n)) {
+        Ok(Kind::Dns) => {
+            let name = asked_name(v, general_names::name_text(chain, n));
+            check_dns_name_constraints(chain, nc, v, name)
+        }
+        Ok(Kind::Directory) => {
+            check_directory_name_constraints(chain, nc, general_names::name_range(chain.words, n))
+        }
+        Ok(Kind::Ip) => {
+            check_ip_addr_name_constraints(chain, nc, general_names::name_text(chain, n))
+        }
+        Err(word) => word.0 != OTHER,
     }
-    if k == 1 {
-        let name = general_names::name_range(chain.words, n);
-        return check_directory_name_constraints(chain, nc, name);
-    }
-    if k == 2 {
-        let address = general_names::name_text(chain, n);
-        return check_ip_addr_name_constraints(chain, nc, address);
-    }
-    k != 3
 }
 
 // Whether each name of a range passes.

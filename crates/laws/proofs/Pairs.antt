@@ -1,11 +1,12 @@
 -- Two lists in step, told by numbers: rows compared number by number, and tests that follow from one another. Assumes nothing.
-use Prim.Native.Nat.{ℕ, ◌-◌, ◌<◌}
+use Prim.Native.Nat.{ℕ, zero, suc, ◌+◌, ◌-◌, ◌≤◌, ◌<◌}
 use native.Mathlib.Omega.{arith}
+use native.Mathlib.Nat.{add-zero, sub-zero}
 use mathlib.Core.Path.{◌≡◌, refl, sym, ap, ◌∙◌}
 use mathlib.Core.List.{List, [], ◌∷◌}
 use mathlib.Core.Bool.{Bool, true, false, ◌&&◌, ◌||◌, or-true, and-false, false≢true}
 use lib.ListN.{length}
-use Rattle.laws.specs.Lists.{rows, any, all, each, front}
+use Rattle.laws.specs.Lists.{run, rows, numbers, any, all, each, front}
 use Rattle.laws.proofs.Equal.{each_length}
 use Rattle.laws.proofs.Rows.{rows_length}
 use Rattle.laws.proofs.Tests.{and_left, and_right}
@@ -75,10 +76,28 @@ front_long p [] b l = absurd (omega arith)
 front_long p (x ∷ a) [] l = refl
 front_long p (x ∷ a) (y ∷ b) l = rw (front_long p a b (omega arith)) (and-false (p x y))
 
--- ---- rows of two ranges of unlike lengths: n is the length of the first, m that of the second
-module _ {A B : Type 0} (p : A → B → Bool) (g : ℕ → A) (h : ℕ → B) (a e f t : ℕ) {n m : ℕ} (q : n ≡ e - a) (r : m ≡ t - f) where
-  pub front_longer : m < n → false ≡ front p (rows g a e) (rows h f t)
-  front_longer l = sym (front_long p (rows g a e) (rows h f t) (omega (arith, rows_length g a e, rows_length h f t)))
+-- ---- rows of two ranges, compared number by number
+module _ {A B : Type 0} (p : A → B → Bool) (g : ℕ → A) (h : ℕ → B) (a e f t : ℕ) where
+  run_pairs : (c k m : ℕ) → k ≤ m → front p (run g (a + c) k) (run h (f + c) m) ≡ all (λ i. p (g (a + i)) (h (f + i))) (run (λ i. i) c k)
+  unfolding front all run
+  run_pairs c zero m l = refl
+  run_pairs c (suc k) zero l = absurd (omega arith)
+  run_pairs c (suc k) (suc m) l =
+      let u : a + c + 1 ≡ a + (c + 1) = omega arith in
+      let v : f + c + 1 ≡ f + (c + 1) = omega arith in
+      rw (u, v, run_pairs (c + 1) k m (omega arith)) refl
 
-  pub each_unequal : (n ≡ m → ⊥) → false ≡ each p (rows g a e) (rows h f t)
-  each_unequal l = sym (each_length p (rows g a e) (rows h f t) (λ s. l (q ∙ sym (rows_length g a e) ∙ s ∙ rows_length h f t ∙ sym r)))
+  -- n is the length of the first, m that of the second
+  module _ {n m : ℕ} (q : n ≡ e - a) (r : m ≡ t - f) where
+    pub front_pairs : n ≤ m → front p (rows g a e) (rows h f t) ≡ all (λ i. p (g (a + i)) (h (f + i))) (numbers 0 n)
+    unfolding rows
+    front_pairs l = rw (← q, ← r, sub-zero) (rw (add-zero, add-zero) at (run_pairs 0 n m l))
+
+    pub front_longer : m < n → false ≡ front p (rows g a e) (rows h f t)
+    front_longer l = sym (front_long p (rows g a e) (rows h f t) (omega (arith, rows_length g a e, rows_length h f t)))
+
+    pub each_pairs : n ≡ m → each p (rows g a e) (rows h f t) ≡ all (λ i. p (g (a + i)) (h (f + i))) (numbers 0 n)
+    each_pairs l = each_is_front p (rows g a e) (rows h f t) (rows_length g a e ∙ sym q ∙ l ∙ r ∙ sym (rows_length h f t)) ∙ front_pairs (omega arith)
+
+    pub each_unequal : (n ≡ m → ⊥) → false ≡ each p (rows g a e) (rows h f t)
+    each_unequal l = sym (each_length p (rows g a e) (rows h f t) (λ s. l (q ∙ sym (rows_length g a e) ∙ s ∙ rows_length h f t ∙ sym r)))

@@ -4,6 +4,7 @@ ghost use Rattle.text.specs.Texts.{lowered};
 ghost use Rattle.model.specs.Decode.{cert_at, task_of, list_at, lists_of};
 ghost use Rattle.roots.specs.Fingerprints.{not_in_crl, serves_domains, serves_host, valid_root_fingerprint};
 
+use certs::row::FINGERPRINT;
 use model::chain::CertRow;
 use model::policy::ListNo;
 use table::Lent;
@@ -35,7 +36,7 @@ fn serves_domains(
 fn serves_host(chain: Lent, lists: Lent, root: CertRow, host: &[u8]) -> bool
     ensures { result ≡ serves_host (lists_of lists.entry.words.now lists.entry.bytes.now) (cert_at chain.entry.words.now chain.entry.bytes.now root.0) host.now }
 {
-    let fingerprint = crate::fingerprint(chain, root);
+    let fingerprint = certs::cert_string(chain, root, FINGERPRINT);
     if serves_domains(
         lists,
         lists::INDIA_TRUSTED,

@@ -12,21 +12,11 @@ ghost use Rattle.lists.specs.Listed.{listed};
 use certs::row::FINGERPRINT;
 use model::chain::CertRow;
 use model::policy::ListNo;
-use table::{Lent, StringNo};
-
-// The fingerprint of a certificate, as a part of the bytes.
-fn fingerprint<'a>(chain: Lent<'a>, c: CertRow) -> &'a [u8]
-    ensures { result.now ≡ (cert_at chain.entry.words.now chain.entry.bytes.now c.0).fingerprint }
-{
-    table::string(
-        chain,
-        StringNo(certs::cert_word(chain.words, c, FINGERPRINT)),
-    )
-}
+use table::Lent;
 
 // Whether a list holds the fingerprint of a certificate.
 fn is_listed(chain: Lent, lists: Lent, k: ListNo, c: CertRow) -> bool
     ensures { result ≡ listed (list_at lists.entry.words.now lists.entry.bytes.now k.0) (cert_at chain.entry.words.now chain.entry.bytes.now c.0).fingerprint }
 {
-    lists::in_list(lists, k, fingerprint(chain, c))
+    lists::in_list(lists, k, certs::cert_string(chain, c, FINGERPRINT))
 }

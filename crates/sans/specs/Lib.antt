@@ -1,2 +1,3 @@
+pub mod Kinds
 pub mod Sans
 pub mod Stated

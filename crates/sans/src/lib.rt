@@ -6,6 +6,7 @@ ghost use Rattle.laws.specs.Lists.{any};
 ghost use Rattle.model.specs.Sections.{names};
 ghost use Rattle.model.specs.Decode.{attribute_at, general_at, generals_in, cert_word, cert_range, cert_at};
 ghost use Rattle.model.specs.Shown.{ShowsPart};
+ghost use Rattle.sans.specs.Kinds.{Decodes};
 ghost use Rattle.sans.specs.Sans.{number_of, is_kind, check_san_has_dns, is_common};
 
 use certs::row::{SAN, SAN_NAMES};
@@ -32,6 +33,26 @@ impl From<Kind> for u64 {
             Kind::Dns => 0,
             Kind::Directory => 1,
             Kind::Ip => 2,
+        }
+    }
+}
+
+// A word that is none of these kinds.
+#[derive(Clone, Copy)]
+pub struct OtherKind(pub u64);
+
+// The kind of a word.
+impl TryFrom<u64> for Kind {
+    type Error = OtherKind;
+
+    ghost try_from_gives = { Decodes };
+
+    fn try_from(word: u64) -> Result<Self, OtherKind> {
+        match word {
+            0 => Ok(Kind::Dns),
+            1 => Ok(Kind::Directory),
+            2 => Ok(Kind::Ip),
+            _ => Err(OtherKind(word)),
         }
     }
 }

@@ -4,7 +4,7 @@
 ghost use Rattle.std.specs.Prelude.{◌≡◌, not, eqb, ltb};
 ghost use Rattle.table.specs.Table.{word as word_of, count_of};
 ghost use Rattle.model.specs.Sections.{certs};
-ghost use Rattle.sound.specs.Answer.{answer_of, first_word_fault, ChainVerdict, PolicyVerdict};
+ghost use Rattle.sound.specs.Answer.{bundle_number, answer_of, first_word_fault, ChainVerdict, PolicyVerdict};
 ghost use Rattle.sound.specs.Limits.{too_large, most_certs, edition};
 
 use model::chain::CERTS;
@@ -25,6 +25,18 @@ const EDITION: u64 = 1;
 pub enum Bundle {
     Chain,
     Policy,
+}
+
+// The number by which an answer names the bundle.
+impl From<Bundle> for u64 {
+    ghost from_gives = { λ b n. n ≡ bundle_number b };
+
+    fn from(b: Bundle) -> u64 {
+        match b {
+            Bundle::Chain => 0,
+            Bundle::Policy => 1,
+        }
+    }
 }
 
 // Where something is wrong: nothing, a word, a certificate or a pair.

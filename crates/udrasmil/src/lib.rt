@@ -2,25 +2,15 @@
 #![tactic(auto)]
 
 ghost use Rattle.std.specs.Prelude.{◌≡◌, [], ◌∷◌};
-ghost use Rattle.sound.specs.Answer.{bundle_number, place_kind, place_first, place_second};
+ghost use Rattle.sound.specs.Answer.{place_kind, place_first, place_second};
 ghost use Rattle.judge.specs.Judged.{answer_words};
 ghost use Rattle.udrasmil.specs.Boundary.{OpenSslAnswered, ChromeAnswered};
 
 use judge::Answer;
-use sound::{Bundle, Place};
+use sound::Place;
 use table::Lent;
 
-// 0 for the chain's bundle, 1 for the policy's. It can't be a From: both types are of crates below.
-fn bundle_number(b: Bundle) -> u64
-    ensures { result ≡ bundle_number b }
-{
-    match b {
-        Bundle::Chain => 0,
-        Bundle::Policy => 1,
-    }
-}
-
-// A place's kind and its two values, 0 where there is none.
+// A place's kind and its two values, 0 where there is none, as the C interface has them.
 fn place_words(q: Place) -> [u64; 3]
     ensures { result ≡ place_kind q ∷ place_first q ∷ place_second q ∷ [] }
 {
@@ -56,7 +46,7 @@ fn answer_words(a: Answer) -> [u64; 8]
         }
         Answer::Refused(n, bundle, place) => {
             let [kind, first, second] = place_words(place);
-            [n, bundle_number(bundle), kind, first, second, 0, 0, 0]
+            [n, u64::from(bundle), kind, first, second, 0, 0, 0]
         }
     }
 }

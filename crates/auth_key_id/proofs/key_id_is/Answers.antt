@@ -9,4 +9,4 @@ returns-then-cert_word-eq0 c = absent_passes _ _ _ (sym c.cert_word.ensures ∙ 
 
 pub returns : goal.returns
 unfolding key_id_is
-returns c = present_passes _ _ _ (λ z. c.if-cert_word-eq0.false (c.cert_word.ensures ∙ z)) (rw (← c.cert_word-2.ensures) c.string_is.ensures)
+returns c = present_passes _ _ _ (λ z. c.if-cert_word-eq0.false (c.cert_word.ensures ∙ z)) (rw (← c.cert_string.ensures) c.same.ensures)

@@ -9,4 +9,4 @@ returns-in-None c = none_passes _ (rw c.cert_word.ensures at c.in-None.ensures)
 
 pub returns-in-Some : goal.returns-in-Some
 unfolding same_serial
-returns-in-Some c = some_passes _ (rw c.cert_word.ensures at c.in-Some.ensures) (rw (← c.cert_word-in-Some.ensures) c.string_is.ensures)
+returns-in-Some c = some_passes _ (rw c.cert_word.ensures at c.in-Some.ensures) (rw (← c.cert_string.ensures) c.same.ensures)

@@ -2,4 +2,4 @@
 use Rattle.roots.proofs.is_listed.Goals as goal
 
 pub returns : goal.returns
-returns c = rw (← c.fingerprint.ensures) c.in_list.ensures
+returns c = rw (← c.cert_string.ensures) c.in_list.ensures

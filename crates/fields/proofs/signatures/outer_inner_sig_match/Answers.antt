@@ -3,4 +3,4 @@ use Rattle.fields.proofs.signatures.outer_inner_sig_match.Goals as goal
 
 pub returns : goal.returns
 unfolding outer_inner_sig_match
-returns c = rw (← c.cert_word.ensures, ← c.string.ensures, ← c.cert_word-2.ensures, ← c.string-2.ensures) c.same.ensures
+returns c = rw (← c.cert_string.ensures, ← c.cert_string-2.ensures) c.same.ensures
