@@ -153,12 +153,10 @@ impl Readable<'_> {
 fn chain_placed(words: &[u64]) -> bool
     ensures { result ≡ all_placed chain_header chain_sections words.now }
 {
-    !is_misplaced(words, CHAIN_HEADER, STRINGS)
-        & !is_misplaced(words, CHAIN_HEADER, ATTRIBUTES)
-        & !is_misplaced(words, CHAIN_HEADER, RDNS)
-        & !is_misplaced(words, CHAIN_HEADER, NAMES)
-        & !is_misplaced(words, CHAIN_HEADER, USAGES)
-        & !is_misplaced(words, CHAIN_HEADER, CERTS)
+    let sections = [STRINGS, ATTRIBUTES, RDNS, NAMES, USAGES, CERTS];
+    sections
+        .iter()
+        .all(|s| !is_misplaced(words, CHAIN_HEADER, *s))
 }
 
 // Whether each row but those of S is right.
