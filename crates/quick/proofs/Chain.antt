@@ -3,11 +3,11 @@ use Prim.Native.Nat.{ℕ}
 use mathlib.Core.Path.{◌≡◌, refl, ap₂, ◌∙◌}
 use mathlib.Core.List.Memᴰ
 use mathlib.Core.List.{List}
-use mathlib.Core.Bool.{Bool, true, false, not, ◌&&◌, and_assoc, and-true}
+use mathlib.Core.Bool.{Bool, true, false, ◌&&◌, and_assoc, and-true}
 use Rattle.laws.specs.Lists.{all}
 use Rattle.table.specs.Table.{strings}
 use Rattle.model.specs.Sections.{chain_header, attributes, rdns, names, usages, certs}
-use Rattle.sections.specs.Placed.{misplaced, chain_sections}
+use Rattle.sections.specs.Placed.{chain_sections}
 use Rattle.search.specs.declared.Line.{Line}
 use Rattle.search.specs.declared.Block.TheVariants.{Header, All}
 use Rattle.lines.specs.Tables.{chain_lines}
@@ -16,12 +16,7 @@ use Rattle.quick.specs.Fine.{all_placed, line_fine, all_fine, chain_fine}
 use Rattle.quick.specs.Asked.{string_line, StringsLie}
 use Rattle.quick.proofs.Whole.{block_rows, header_rows, others_of, split, placed_in, lies_in}
 
--- the six sections
-pub six_placed : (w : List ℕ) {s a r g u c : Bool} → s ≡ misplaced chain_header w strings → a ≡ misplaced chain_header w attributes → r ≡ misplaced chain_header w rdns → g ≡ misplaced chain_header w names → u ≡ misplaced chain_header w usages → c ≡ misplaced chain_header w certs → (not s && not a && not r && not g && not u && not c) ≡ all_placed chain_header chain_sections w
-unfolding all_placed all
-six_placed w s a r g u c = rw (s, a, r, g, u, c) (simp (and_assoc, and-true) refl)
-
--- each of them lies in the words
+-- each section lies in the words
 module _ (w : List ℕ) (h : all_placed chain_header chain_sections w ≡ true) where
   pub strings_placed : Lies w strings
   strings_placed = lies_in chain_header chain_sections w strings h (Memᴰ.head refl)

@@ -38,51 +38,6 @@ fn strings_fit(chain: Lent) -> bool
     each_row(words, STRINGS, |q| !ends_past(words[q], words[q + 1], end))
 }
 
-// Whether a string has a byte over 127. It is read where it stands: its row lies in the words, and it in the bytes.
-fn is_high(chain: Lent, s: StringNo) -> bool
-    requires { StringsLie chain.words.now chain.bytes.now × (s.0 < count_of chain.words.now stringRows) }
-    ensures { result ≡ high_string chain.entry.words.now chain.entry.bytes.now s.0 }
-{
-    let n = s.0;
-    let p = (table::offset(chain.words, STRINGS) + STRINGS.size * n) as usize;
-    let start = chain.words[p] as usize;
-    let end = start + chain.words[p + 1] as usize;
-    ascii::has_high(&chain.bytes[start..end])
-}
-
-// Whether there is such a string, and it has no byte over 127. Inlined, since a call for each string made the whole check a sixth slower.
-#[inline(always)]
-fn is_ascii(chain: Lent, s: StringNo, count: u64) -> bool
-    requires { StringsLie chain.words.now chain.bytes.now × (count ≡ count_of chain.words.now stringRows) }
-    ensures { result ≡ (not (leb count s.0) && not (high_string chain.entry.words.now chain.entry.bytes.now s.0)) }
-{
-    if count <= s.0 {
-        return false;
-    }
-    !is_high(chain, s)
-}
-
-// The attribute at q: its OID is a string, and its value one without a byte over 127.
-fn attribute_fits(chain: Lent, q: usize, strings: u64) -> bool
-    requires { (q + attributeRows.size ≤ length chain.words.now) × StringsLie chain.words.now chain.bytes.now × (strings ≡ count_of chain.words.now stringRows) }
-    ensures { result ≡ row_fine chain.entry.words.now chain.entry.bytes.now (lines_of attributeRows.count chain_lines) q }
-{
-    (chain.words[q] < strings) & is_ascii(chain, StringNo(chain.words[q + 1]), strings)
-}
-
-// Each attribute.
-fn attributes_fine(chain: Lent) -> bool
-    requires { Lies chain.words.now attributeRows × StringsLie chain.words.now chain.bytes.now }
-    ensures { result ≡ rows_fine chain.entry.words.now chain.entry.bytes.now (lines_of attributeRows.count chain_lines) (Block.All attributeRows) }
-{
-    let strings = table::count(chain.words, STRINGS);
-    each_row(
-        chain.words,
-        ATTRIBUTES,
-        |q| attribute_fits(chain, q, strings),
-    )
-}
-
 // Each RDN: its attributes are a range of A.
 fn rdns_fine(words: &[u64]) -> bool
     requires { Lies words.now rdnRows }
@@ -96,30 +51,6 @@ fn rdns_fine(words: &[u64]) -> bool
     )
 }
 
-// The name at q: what its kind asks for.
-fn name_fits(chain: Lent, q: usize, strings: u64, rdns: u64) -> bool
-    requires { (q + nameRows.size ≤ length chain.words.now) × StringsLie chain.words.now chain.bytes.now × (strings ≡ count_of chain.words.now stringRows) × (rdns ≡ count_of chain.words.now rdnRows) }
-    ensures { result ≡ row_fine chain.entry.words.now chain.entry.bytes.now (lines_of nameRows.count chain_lines) q }
-{
-    let kind = chain.words[q];
-    match kind {
-        0 => is_ascii(chain, StringNo(chain.words[q + 1]), strings),
-        1 => !ends_past(chain.words[q + 1], chain.words[q + 2], rdns),
-        2 => chain.words[q + 1] < strings,
-        _ => kind <= 4,
-    }
-}
-
-// Each name.
-fn names_fine(chain: Lent) -> bool
-    requires { Lies chain.words.now nameRows × StringsLie chain.words.now chain.bytes.now }
-    ensures { result ≡ rows_fine chain.entry.words.now chain.entry.bytes.now (lines_of nameRows.count chain_lines) (Block.All nameRows) }
-{
-    let strings = table::count(chain.words, STRINGS);
-    let rdns = table::count(chain.words, RDNS);
-    each_row(chain.words, NAMES, |q| name_fits(chain, q, strings, rdns))
-}
-
 // Each usage is one of eight.
 fn usages_fine(words: &[u64]) -> bool
     requires { Lies words.now usageRows }
@@ -128,30 +59,104 @@ fn usages_fine(words: &[u64]) -> bool
     each_row(words, USAGES, |q| words[q] <= 7)
 }
 
-// The host, where there is one, and the purpose.
-fn header_fine(chain: Lent) -> bool
-    requires { StringsLie chain.words.now chain.bytes.now }
-    ensures { result ≡ row_fine chain.entry.words.now chain.entry.bytes.now (lines_of 0 chain_lines) 0 }
-{
-    let host = word(chain.words, 13);
-    let purpose = word(chain.words, 14);
-    if host == 0 {
-        return purpose == 0;
+// A chain bundle whose rows of S end inside the words, and whose strings lie in the bytes; and how many strings there are. Where it is built that is proved, so no method asks for it.
+#[derive(Clone, Copy)]
+struct Readable<'a> {
+    chain: Lent<'a>,
+    strings: u64,
+    // Each string may be read where it stands.
+    ghost lie: { StringsLie chain.words.now chain.bytes.now },
+    // As many as the header says.
+    ghost counted: { strings ≡ count_of chain.words.now stringRows },
+}
+
+impl Readable<'_> {
+    // Whether a string has a byte over 127. It is read where it stands: its row lies in the words, and it in the bytes.
+    fn is_high(self, s: StringNo) -> bool
+        requires { s.0 < count_of self.chain.words.now stringRows }
+        ensures { result ≡ high_string self.entry.chain.words.now self.entry.chain.bytes.now s.0 }
+    {
+        let Lent { words, bytes } = self.chain;
+        let n = s.0;
+        let p = (table::offset(words, STRINGS) + STRINGS.size * n) as usize;
+        let start = words[p] as usize;
+        let end = start + words[p + 1] as usize;
+        ascii::has_high(&bytes[start..end])
     }
-    let strings = table::count(chain.words, STRINGS);
-    is_ascii(chain, StringNo(host - 1), strings) & (purpose == 0)
+
+    // Whether there is such a string, and it has no byte over 127. Inlined, since a call for each string made the whole check a sixth slower.
+    #[inline(always)]
+    fn is_ascii(self, s: StringNo) -> bool
+        ensures { result ≡ (not (leb self.entry.strings s.0) && not (high_string self.entry.chain.words.now self.entry.chain.bytes.now s.0)) }
+    {
+        if self.strings <= s.0 {
+            return false;
+        }
+        !self.is_high(s)
+    }
+
+    // The attribute at q: its OID is a string, and its value one without a byte over 127.
+    fn attribute_fits(self, q: usize) -> bool
+        requires { q + attributeRows.size ≤ length self.chain.words.now }
+        ensures { result ≡ row_fine self.entry.chain.words.now self.entry.chain.bytes.now (lines_of attributeRows.count chain_lines) q }
+    {
+        let words = self.chain.words;
+        (words[q] < self.strings) & self.is_ascii(StringNo(words[q + 1]))
+    }
+
+    // Each attribute.
+    fn attributes_fine(self) -> bool
+        requires { Lies self.chain.words.now attributeRows }
+        ensures { result ≡ rows_fine self.entry.chain.words.now self.entry.chain.bytes.now (lines_of attributeRows.count chain_lines) (Block.All attributeRows) }
+    {
+        each_row(self.chain.words, ATTRIBUTES, |q| self.attribute_fits(q))
+    }
+
+    // The name at q: what its kind asks for.
+    fn name_fits(self, q: usize, rdns: u64) -> bool
+        requires { (q + nameRows.size ≤ length self.chain.words.now) × (rdns ≡ count_of self.chain.words.now rdnRows) }
+        ensures { result ≡ row_fine self.entry.chain.words.now self.entry.chain.bytes.now (lines_of nameRows.count chain_lines) q }
+    {
+        let words = self.chain.words;
+        let kind = words[q];
+        match kind {
+            0 => self.is_ascii(StringNo(words[q + 1])),
+            1 => !ends_past(words[q + 1], words[q + 2], rdns),
+            2 => words[q + 1] < self.strings,
+            _ => kind <= 4,
+        }
+    }
+
+    // Each name.
+    fn names_fine(self) -> bool
+        requires { Lies self.chain.words.now nameRows }
+        ensures { result ≡ rows_fine self.entry.chain.words.now self.entry.chain.bytes.now (lines_of nameRows.count chain_lines) (Block.All nameRows) }
+    {
+        let rdns = table::count(self.chain.words, RDNS);
+        each_row(self.chain.words, NAMES, |q| self.name_fits(q, rdns))
+    }
+
+    // The host, where there is one, and the purpose.
+    fn header_fine(self) -> bool
+        ensures { result ≡ row_fine self.entry.chain.words.now self.entry.chain.bytes.now (lines_of 0 chain_lines) 0 }
+    {
+        let host = word(self.chain.words, 13);
+        let purpose = word(self.chain.words, 14);
+        if host == 0 {
+            return purpose == 0;
+        }
+        self.is_ascii(StringNo(host - 1)) & (purpose == 0)
+    }
 }
 
 // Whether each section is in its place.
 fn chain_placed(words: &[u64]) -> bool
     ensures { result ≡ all_placed chain_header chain_sections words.now }
 {
-    !is_misplaced(words, CHAIN_HEADER, STRINGS)
-        & !is_misplaced(words, CHAIN_HEADER, ATTRIBUTES)
-        & !is_misplaced(words, CHAIN_HEADER, RDNS)
-        & !is_misplaced(words, CHAIN_HEADER, NAMES)
-        & !is_misplaced(words, CHAIN_HEADER, USAGES)
-        & !is_misplaced(words, CHAIN_HEADER, CERTS)
+    let sections = [STRINGS, ATTRIBUTES, RDNS, NAMES, USAGES, CERTS];
+    sections
+        .iter()
+        .all(|s| !is_misplaced(words, CHAIN_HEADER, *s))
 }
 
 // Whether each row but those of S is right.
@@ -159,12 +164,14 @@ fn chain_rows_fine(chain: Lent) -> bool
     requires { (all_placed chain_header chain_sections chain.words.now ≡ true) × (line_fine chain.words.now chain.bytes.now string_line ≡ true) }
     ensures { result ≡ all (line_fine chain.entry.words.now chain.entry.bytes.now) chain_lines }
 {
-    attributes_fine(chain)
+    let strings = table::count(chain.words, STRINGS);
+    let readable = Readable { chain, strings };
+    readable.attributes_fine()
         & rdns_fine(chain.words)
-        & names_fine(chain)
+        & readable.names_fine()
         & usages_fine(chain.words)
         & quick_certs::certs_fine(chain.words)
-        & header_fine(chain)
+        & readable.header_fine()
 }
 
 // Whether a chain bundle has no fault of refusals 4 to 8.

@@ -1,9 +1,9 @@
 -- What is asked of one row: every line of its section at once. Assumes nothing.
-use Rattle.std.specs.Prelude.{ℕ, ◌+◌, ◌*◌, ◌≤◌, ◌≡◌, List, [], ◌∷◌, Bool, not, ◌&&◌, eqb, length}
+use Rattle.std.specs.Prelude.{ℕ, ◌+◌, ◌*◌, ◌≤◌, List, [], ◌∷◌, Bool, not, ◌&&◌, eqb, length}
 use Rattle.laws.specs.Lists.{pick, numbers, all}
-use Rattle.table.specs.Table.{count_of, offset_of, strings}
+use Rattle.table.specs.Table.{count_of, offset_of}
 use Rattle.table.specs.declared.Section.{Section}
-use Rattle.model.specs.Sections.{chain_header, rdns, names, usages, certs}
+use Rattle.model.specs.Sections.{chain_header, certs}
 use Rattle.sections.specs.Placed.{misplaced}
 use Rattle.row_tests.specs.Wrong.{wrong}
 use Rattle.search.specs.declared.Line.{Line}
@@ -11,7 +11,6 @@ use Rattle.search.specs.declared.Block.{Block}
 use Rattle.search.specs.declared.Block.TheVariants.{Header, All, Listed}
 use Rattle.search.specs.Rows.{rows_of, row_at}
 use Rattle.lines.specs.Tables.{chain_lines}
-use Rattle.quick_certs.specs.declared.Counts.{Counts}
 
 -- the row at q is right, as far as some lines ask
 unfoldable pub row_fine : List ℕ → List ℕ → List Line → ℕ → Bool
@@ -39,7 +38,3 @@ certs_fine w b = not (misplaced chain_header w certs) && rows_fine w b (lines_of
 -- the rows of a section end inside the words
 abbrev pub Lies : List ℕ → Section → Type 0
 Lies w s = offset_of w s + s.size * count_of w s ≤ length w
-
--- how many rows the sections have that a certificate points into
-abbrev pub Counted : List ℕ → Counts → Type 0
-Counted w k = (k.strings ≡ count_of w strings) × (k.rdns ≡ count_of w rdns) × (k.usages ≡ count_of w usages) × (k.names ≡ count_of w names)

@@ -3,8 +3,8 @@ use Rattle.model.specs.Sections.{attributes}
 use Rattle.search.specs.Rows.{rows_of}
 use Rattle.lines.specs.Tables.{chain_lines}
 use Rattle.quick_certs.specs.Asked.{row_fine, rows_fine, lines_of}
-use Rattle.quick.proofs.attributes_fine.Goals as goal
+use Rattle.quick.proofs.Readable.attributes_fine.Goals as goal
 
 pub returns : goal.returns
 unfolding rows_fine rows_of
-returns c = c.each_row.ensures (row_fine c.args.chain.words.now c.args.chain.bytes.now (lines_of attributes.count chain_lines)) (λ q r k. search rules)
+returns c = c.each_row.ensures (row_fine c.args.self.chain.words.now c.args.self.chain.bytes.now (lines_of attributes.count chain_lines)) (λ q r k. search rules)

@@ -1,6 +1,6 @@
 use Rattle.table.specs.Table.{word}
 use Rattle.quick_certs.proofs.Certs.{extensions_right}
-use Rattle.quick_certs.proofs.extensions_fit.Goals as goal
+use Rattle.quick_certs.proofs.CertAt.extensions_fit.Goals as goal
 
 pub returns : goal.returns
 unfolding word

@@ -1,6 +1,6 @@
 use Rattle.table.specs.Table.{word}
 use Rattle.quick_certs.proofs.Certs.{marks_row}
-use Rattle.quick_certs.proofs.marks_fit.Goals as goal
+use Rattle.quick_certs.proofs.CertAt.marks_fit.Goals as goal
 
 pub returns : goal.returns
 unfolding word

@@ -1,6 +1,6 @@
 use Rattle.table.specs.Table.{word}
 use Rattle.quick_certs.proofs.Certs.{codes_row}
-use Rattle.quick_certs.proofs.codes_fit.Goals as goal
+use Rattle.quick_certs.proofs.CertAt.codes_fit.Goals as goal
 
 pub returns : goal.returns
 unfolding word

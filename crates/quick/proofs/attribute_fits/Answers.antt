@@ -1,7 +1,0 @@
-use Rattle.table.specs.Table.{word}
-use Rattle.quick.proofs.Rows.{attribute_row}
-use Rattle.quick.proofs.attribute_fits.Goals as goal
-
-pub returns : goal.returns
-unfolding word
-returns c = attribute_row _ _ _ c.requires.2 c.is_ascii.ensures
