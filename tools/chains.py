@@ -22,7 +22,7 @@ ROWS = [
     ("purpose", "any_serves", "any", None),
     ("covering", "any_directory", "any", GENERALS),
     ("covering", "any_ip", "any", GENERALS),
-    ("covering_dns", "any_in", "any", None),
+    ("covering_dns", "Rows::any", "any", None),
     ("covering_dns", "any_slow", "any", GENERALS),
     ("constraints", "names_pass", "all", GENERALS),
     ("constrained_o", "attributes_pass", "all", None),

@@ -76,13 +76,6 @@ fn over(words: &[u64], most: u64, p: usize) -> bool
     most < word(words, p)
 }
 
-// Whether word p is not 0: a part is present, an optional string is there.
-fn there(words: &[u64], p: usize) -> bool
-    ensures { result ≡ there words.now p }
-{
-    word(words, p) != 0
-}
-
 // Whether a string has a byte over 127.
 fn high_string(lent: Lent, n: StringNo) -> bool
     ensures { result ≡ high_string lent.entry.words.now lent.entry.bytes.now n.0 }
@@ -95,43 +88,6 @@ pub fn string_out(lent: Lent, p: usize) -> bool
     ensures { result ≡ string_out lent.entry.words.now lent.entry.bytes.now p }
 {
     two_end_past(lent.words, p, lent.bytes.len() as u64)
-}
-
-// Whether the name at q has an x, or an x and y, that its kind does not allow.
-fn name_out(words: &[u64], q: usize) -> bool
-    requires { q ≤ length words.now }
-    ensures { result ≡ name_out words.now q }
-{
-    let kind = word(words, q);
-    match kind {
-        0 | 2 => no_string(words, q + 1),
-        1 => no_range(words, RDNS, q + 1),
-        _ => false,
-    }
-}
-
-// Whether the certificate at q has one of the nine parts.
-fn some_part(words: &[u64], q: usize) -> bool
-    requires { q ≤ length words.now }
-    ensures { result ≡ some_part words.now q }
-{
-    there(words, q + 15)
-        | there(words, q + 19)
-        | there(words, q + 21)
-        | there(words, q + 24)
-        | there(words, q + 28)
-        | there(words, q + 30)
-        | there(words, q + 33)
-        | there(words, q + 38)
-        | there(words, q + 39)
-}
-
-// Whether word 40 of the certificate at q is above 1, or 0 beside a part.
-fn extensions_wrong(words: &[u64], q: usize) -> bool
-    requires { q ≤ length words.now }
-    ensures { result ≡ extensions_wrong words.now q }
-{
-    over(words, 1, q + 40) | (!there(words, q + 40) & some_part(words, q))
 }
 
 // Whether the string whose number is at p has a byte over 127.
@@ -162,41 +118,88 @@ fn optional_high(lent: Lent, p: usize) -> bool
     high_string(lent, StringNo(n - 1))
 }
 
-// A row that begins past the last word reads as one that begins right behind it: as zeros.
-fn within(words: &[u64], q: usize) -> usize
-    ensures { result ≡ min q (length words.now) }
-{
-    q.min(words.len())
+// A row of a bundle that does not begin past the last word, so that no sum wraps.
+#[derive(Clone, Copy)]
+struct Row<'a> {
+    lent: Lent<'a>,
+    start: usize,
+    ghost inside: { start ≤ length lent.words.now },
 }
 
-// The same as `is_wrong` of a row that does not begin past the end, so that no sum wraps. A match and no closures: a line's test is data, and `wrong` goes by its case.
-fn is_wrong_within(lent: Lent, t: Test, q: usize, j: u8) -> bool
-    requires { q ≤ length lent.words.now }
-    ensures { result ≡ wrong t lent.entry.words.now lent.entry.bytes.now q j }
-{
-    let p = q + j as usize;
-    match t {
-        Test::StringOut => string_out(lent, p),
-        Test::NumberOut => no_string(lent.words, p),
-        Test::OptionalOut => no_optional(lent.words, p),
-        Test::RangeOut(s) => no_range(lent.words, s, p),
-        Test::NameOut => name_out(lent.words, q),
-        Test::PartNumber(m) => there(lent.words, q + m as usize) & no_string(lent.words, p),
-        Test::PartOptional(m) => there(lent.words, q + m as usize) & no_optional(lent.words, p),
-        Test::PartRange(m, s) => there(lent.words, q + m as usize) & no_range(lent.words, s, p),
-        Test::Over(most) => over(lent.words, most, p),
-        Test::PartOver(m, most) => there(lent.words, q + m as usize) & over(lent.words, most, p),
-        Test::Extensions => extensions_wrong(lent.words, q),
-        Test::NumberHigh => number_high(lent, p),
-        Test::DnsHigh => dns_high(lent, q, p),
-        Test::OptionalHigh => optional_high(lent, p),
-        Test::NotZero => there(lent.words, p),
+impl<'a> Row<'a> {
+    // Whether word m of the row is not 0: a part is present, an optional string is there.
+    fn there(self, m: u8) -> bool
+        ensures { result ≡ there self.entry.lent.words.now (self.entry.start + m) }
+    {
+        word(self.lent.words, self.start + m as usize) != 0
+    }
+
+    // Whether the name has an x, or an x and y, that its kind does not allow.
+    fn name_out(self) -> bool
+        ensures { result ≡ name_out self.entry.lent.words.now self.entry.start }
+    {
+        let words = self.lent.words;
+        let kind = word(words, self.start);
+        match kind {
+            0 | 2 => no_string(words, self.start + 1),
+            1 => no_range(words, RDNS, self.start + 1),
+            _ => false,
+        }
+    }
+
+    // Whether the certificate has one of the nine parts.
+    fn some_part(self) -> bool
+        ensures { result ≡ some_part self.entry.lent.words.now self.entry.start }
+    {
+        self.there(15)
+            | self.there(19)
+            | self.there(21)
+            | self.there(24)
+            | self.there(28)
+            | self.there(30)
+            | self.there(33)
+            | self.there(38)
+            | self.there(39)
+    }
+
+    // Whether word 40 of the certificate is above 1, or 0 beside a part.
+    fn extensions_wrong(self) -> bool
+        ensures { result ≡ extensions_wrong self.entry.lent.words.now self.entry.start }
+    {
+        over(self.lent.words, 1, self.start + 40) | (!self.there(40) & self.some_part())
+    }
+
+    // Whether word j is wrong in the way that the test looks for. A match and no closures: a line's test is data, and `wrong` goes by its case.
+    fn is_wrong(self, t: Test, j: u8) -> bool
+        ensures { result ≡ wrong t self.entry.lent.words.now self.entry.lent.bytes.now self.entry.start j }
+    {
+        let lent = self.lent;
+        let words = lent.words;
+        let p = self.start + j as usize;
+        match t {
+            Test::StringOut => string_out(lent, p),
+            Test::NumberOut => no_string(words, p),
+            Test::OptionalOut => no_optional(words, p),
+            Test::RangeOut(s) => no_range(words, s, p),
+            Test::NameOut => self.name_out(),
+            Test::PartNumber(m) => self.there(m) & no_string(words, p),
+            Test::PartOptional(m) => self.there(m) & no_optional(words, p),
+            Test::PartRange(m, s) => self.there(m) & no_range(words, s, p),
+            Test::Over(most) => over(words, most, p),
+            Test::PartOver(m, most) => self.there(m) & over(words, most, p),
+            Test::Extensions => self.extensions_wrong(),
+            Test::NumberHigh => number_high(lent, p),
+            Test::DnsHigh => dns_high(lent, self.start, p),
+            Test::OptionalHigh => optional_high(lent, p),
+            Test::NotZero => self.there(j),
+        }
     }
 }
 
-// Whether word j of the row at q is wrong in the way that the test looks for.
+// Whether word j of the row at q is wrong in the way that the test looks for. A row that begins past the last word reads as one that begins right behind it: as zeros.
 pub fn is_wrong(lent: Lent, t: Test, q: usize, j: u8) -> bool
     ensures { result ≡ wrong t lent.entry.words.now lent.entry.bytes.now q j }
 {
-    is_wrong_within(lent, t, within(lent.words, q), j)
+    let start = q.min(lent.words.len());
+    Row { lent, start }.is_wrong(t, j)
 }

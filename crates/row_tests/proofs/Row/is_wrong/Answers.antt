@@ -1,7 +1,7 @@
 use mathlib.Core.Path.{ap₂}
 use mathlib.Core.Bool.{◌&&◌}
 use Rattle.row_tests.proofs.Reasons.{by_test}
-use Rattle.row_tests.proofs.is_wrong_within.Goals as goal
+use Rattle.row_tests.proofs.Row.is_wrong.Goals as goal
 
 pub returns-in-StringOut : goal.returns-in-StringOut
 returns-in-StringOut c = by_test _ _ _ _ _ _ c.in-StringOut.is c.string_out.ensures

@@ -2,7 +2,7 @@ use mathlib.Core.Path.{ap}
 use mathlib.Core.Bool.{not}
 use lib.Dec.{eqb}
 use Rattle.row_tests.specs.Wrong.{there}
-use Rattle.row_tests.proofs.there.Goals as goal
+use Rattle.row_tests.proofs.Row.there.Goals as goal
 
 pub returns : goal.returns
 unfolding there

@@ -1,5 +1,5 @@
 use Rattle.row_tests.proofs.Reasons.{name_text_law, name_directory, name_unread}
-use Rattle.row_tests.proofs.name_out.Goals as goal
+use Rattle.row_tests.proofs.Row.name_out.Goals as goal
 
 pub returns-in-0 : goal.returns-in-0
 returns-in-0 c = name_text_law _ _ c.word-kind.ensures c.in-0.is c.no_string.ensures

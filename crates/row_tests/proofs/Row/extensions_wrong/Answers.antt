@@ -1,7 +1,7 @@
 use mathlib.Core.Path.{ap, ap₂}
 use mathlib.Core.Bool.{not, ◌&&◌, ◌||◌}
 use Rattle.row_tests.specs.Wrong.{extensions_wrong}
-use Rattle.row_tests.proofs.extensions_wrong.Goals as goal
+use Rattle.row_tests.proofs.Row.extensions_wrong.Goals as goal
 
 pub returns : goal.returns
 unfolding extensions_wrong

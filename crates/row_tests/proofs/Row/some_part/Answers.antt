@@ -1,7 +1,7 @@
 use mathlib.Core.Path.{ap₂}
 use mathlib.Core.Bool.{◌||◌}
 use Rattle.row_tests.specs.Wrong.{some_part}
-use Rattle.row_tests.proofs.some_part.Goals as goal
+use Rattle.row_tests.proofs.Row.some_part.Goals as goal
 
 pub returns : goal.returns
 unfolding some_part
