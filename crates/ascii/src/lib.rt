@@ -16,7 +16,7 @@ pub const STAR: u8 = 5;
 
 pub const SPACE: u8 = 6;
 
-// The lower-case form of a byte. It is the table's, told without it: a loop that looks into the table fetches the whole of it first, and texts are short.
+// The lower-case form of a byte, as the library has it. It is the table's, told without it: a loop that looks into the table fetches the whole of it first, and texts are short.
 pub fn lower(x: u8) -> u8
     ensures { result ≡ lower_byte x }
 {

@@ -67,5 +67,5 @@ pub const AIA: u64 = 39;
 
 pub const ANY_EXTENSIONS: u64 = 40;
 
-// The mark of a critical part.
+// The mark of a critical part. The mark of an absent one is 0, document 01's code: where a part is asked for a word alone, it is compared with 0.
 pub const CRITICAL: u64 = 3;

@@ -1,7 +1,7 @@
 // Reads of a data file: words of eight bytes each, and bytes. No contract can say what a file holds: these say what a read may change, and what it answers without one. A read that fails counts as the file's end.
 #![tactic(auto)]
 
-ghost use Rattle.std.specs.Prelude.{◌≤◌, ◌≡◌, true, take, length, IfOk};
+ghost use Rattle.std.specs.Prelude.{◌≤◌, ◌≡◌, take, length, IfOk};
 ghost use Rattle.data_file.specs.DataFile.{word_of, Filled, Begins, BundleRead};
 
 use std::io::BufReader;
@@ -55,7 +55,7 @@ pub fn word_of(b: [u8; 8]) -> u64
     u64::from_le_bytes(b)
 }
 
-// How a read ended that got so much.
+// How a read ended short, by how many bytes it got.
 fn ended_after(got: usize) -> Ended {
     if got == 0 {
         Ended::Nothing

@@ -28,7 +28,7 @@ pub struct Entry {
     pub spot: Spot,
 }
 
-// What a writer hands back: how many entries there are, how many of them fitted, and the first, which may not have fitted.
+// What a writer hands back: how many entries there are, how many of them fitted, and the first, which may not have fitted. The report itself is lent by C.
 #[derive(Clone, Copy)]
 pub struct Tally {
     pub total: usize,

@@ -3,7 +3,7 @@
 
 ghost use Rattle.std.specs.Prelude.{◌≡◌, None};
 ghost use Rattle.model.specs.Sections.{entries};
-ghost use Rattle.sections.specs.Found.{earlier_of, found_each};
+ghost use Rattle.sections.specs.Found.{found_each};
 ghost use Rattle.search.specs.Found.{found_in};
 ghost use Rattle.lines.specs.Tables.{line, cert, tables_out, cert_strings_out, cert_ranges_out, codes_over, marks_over, names_high, chain_lines, lists_out, entries_high, policy_lines};
 

@@ -63,7 +63,7 @@ fn size(r: Range) -> u64
     r.to.saturating_sub(r.from)
 }
 
-// Whether two RDNs, as ranges of attributes, are the same. The lengths are compared first.
+// Whether two RDNs, as ranges of attributes, are the same. The lengths are compared first. This, `same_dn` and `is_subtree_of` are a comparison and a chain each, and no two take the same rows.
 fn same_attrs(chain: Lent, v: Values, x: Range, y: Range) -> bool
     ensures { result ≡ same_rdn v (rdn_in chain.entry.words.now chain.entry.bytes.now x) (rdn_in chain.entry.words.now chain.entry.bytes.now y) }
 {

@@ -90,7 +90,7 @@ impl Case<'_> {
         i.0 as u64 + 1 == table::count(self.chain.words, CERTS)
     }
 
-    // The rules that are asked of one certificate: c is its row.
+    // The rules that are asked of one certificate: c is its row. A match on the number, a line a rule, as document 01 and the definition have it (`holds_at`).
     fn holds_at(self, rule: RuleNo, i: CertPos, root: bool, c: CertRow) -> bool
         ensures { result ≡ holds_at self.entry.policy (lists_in self.entry) (chain_in self.entry).task rule.0 i.0 root ((chain_in self.entry).cert c.0) }
     {

@@ -93,7 +93,7 @@ fn rows_of(words: &[u64], block: Block) -> Rows
     }
 }
 
-// The first of some rows that fails a test, asked of the word at which a row begins, or their number. Each test has a loop of its own, so that nothing is chosen anew in each row.
+// The first of some rows that fails a test, asked of the word at which a row begins, or their number. The test is chosen once a line and not once a row, but for the tests that few lines have.
 fn first_that<F: Fn(usize) -> bool>(r: Rows, fails: F) -> usize
     requires fits { row_at r r.count < 18446744073709551616 }
     requires asked { (k : ℕ) → k < r.count → F.pre fails (row_at r k) }

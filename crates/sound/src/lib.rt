@@ -78,7 +78,7 @@ fn has_other_edition(words: &[u64]) -> bool
     word(words, 0) != EDITION
 }
 
-// What is said of a bundle of which this was found: nothing, or the refusal at a word.
+// What is said of a bundle in which this was found: nothing, or the refusal at a word.
 fn clear_of(bundle: Bundle, f: Option<Fault>) -> Result<(), Refusal>
     ensures { result ≡ answer_of bundle f }
 {

@@ -8,7 +8,7 @@ ghost use Rattle.timed.specs.Packed.{packed};
 use sound::Place;
 use table::Lent;
 
-// The answer as one number: 0 if the bundle is sound, else the refusal's number times 2^16 plus the word.
+// The answer as one number, for C, which lends slices: 0 if the bundle is sound, else the refusal's number times 2^16 plus the word.
 #[unsafe(no_mangle)]
 pub extern "C" fn chain_check(words: &[u64], bytes: &[u8]) -> u64
     ensures { (c : Checked) × (ChainVerdict words.now bytes.now c × (result ≡ packed c)) }

@@ -1,4 +1,4 @@
-// The C boundary (include/udrasmil.h) as a static library: each export calls the function of its name in the crate udrasmil, and says the same.
+// The C boundary (include/udrasmil.h) as a static library: each export calls the function of its name in the crate udrasmil, and says the same. C lends slices, and no Lent.
 #![tactic(auto)]
 
 ghost use Rattle.udrasmil.specs.Boundary.{OpenSslAnswered, ChromeAnswered};
