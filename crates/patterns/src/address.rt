@@ -19,5 +19,10 @@ pub fn ip_addr_in_range(range: &[u8], address: &[u8]) -> bool
     if (n != 4) & (n != 16) {
         return false;
     }
-    (0..n).all(|i| masked_equal(range[i], range[i + n], address[i]))
+    let (network, mask) = range.split_at(n);
+    network
+        .iter()
+        .zip(mask)
+        .zip(address)
+        .all(|((w, m), a)| masked_equal(*w, *m, *a))
 }
