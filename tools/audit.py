@@ -30,6 +30,7 @@ NUMBERS = {
     "model::chain::rows_named": {"n": "a row of any section", "j": "the place of a word in a row"},
     "model::chain::optional_string": {"word": "a word of a bundle"},
     "certs::cert_word": {"j": "the place of a word in a row"},
+    "certs::cert_string": {"j": "the place of a word in a row"},
     "certs::cert_range": {"j": "the place of a word in a row"},
     "certs::signed": {"word": "a word of a bundle"},
     "fields::key_level::check_cert_key_level": {"least": "a count of bits"},
