@@ -13,7 +13,7 @@ use Rattle.std.specs.declared.option.Option.{Option}
 use Rattle.std.specs.declared.option.Option.TheVariants.{Some, None}
 use Rattle.std.specs.Option.{unwrap_or}
 use Rattle.std.specs.Cmp.Lexicographic.{pointwise}
-use borrow.Author.Tests.{le-leb, eqb-true, lt-ltb, le-ltb}
+use borrow.Author.Tests.{le-leb, eqb-true, ne_eqb, lt-ltb, le-ltb}
 use Rattle.laws.specs.Lists.{any, all, each, eq_list, is_empty, pick}
 use Rattle.laws.proofs.Meaning.{any_agree, any_map}
 use Rattle.laws.proofs.Parts.{rest, empty_length}
@@ -63,31 +63,35 @@ module _ (letters : Letters) (t n : Text) where
     label_dots y g = rw (taken_length letters t, lowered_length n, lt-ltb (length t) (length n) h, ← f, y, ← lowered_take (length n - length t) n, ← lowered_any dot is_dot class_dot lower_dot (take (length n - length t) n), g) refl
 
 -- ---- a pattern
-module _ (letters : Letters) (p n : Text) {e : Bool} (f : e ≡ starts_with p (quoted "*.")) where
-  starts : e ≡ starts_with (taken letters p) (quoted "*.")
-  starts = f ∙ sym (starts_taken letters p)
+longer : (p : Text) → not (eqb (length (drop 2 p)) 0) ≡ ltb 2 (length p)
+longer [] = refl
+longer (x ∷ []) = refl
+longer (x ∷ y ∷ []) = refl
+longer (x ∷ y ∷ z ∷ s) = rw (lt-ltb 2 (length (x ∷ y ∷ z ∷ s)) (omega arith), ne_eqb (length (z ∷ s)) 0 (λ e. omega arith)) refl
 
-  pub name_plain : {r : Bool} → e ≡ false → r ≡ eq_list (taken letters p) (lowered n) → r ≡ match_name (taken letters p) (lowered n)
+module _ (letters : Letters) (p n : Text) where
+  starts : pointwise eqb (take 2 p) (quoted "*.") ≡ starts_with (taken letters p) (quoted "*.")
+  starts = begins p ∙ sym (starts_taken letters p)
+
+  pub name_plain : {r : Bool} → pointwise eqb (take 2 p) (quoted "*.") ≡ false → r ≡ eq_list (taken letters p) (lowered n) → r ≡ match_name (taken letters p) (lowered n)
   unfolding match_name
   name_plain y t = t ∙ sym (pick_false _ _ (sym starts ∙ y))
 
-  module _ (y : e ≡ true) where
-    opened : match_name (taken letters p) (lowered n) ≡ (ltb 2 (length p) && (eq_list (drop 2 (taken letters p)) (lowered n) || one_label (drop 1 (taken letters p)) (lowered n)))
+  -- u is what stands after the star and its dot
+  module _ (y : pointwise eqb (take 2 p) (quoted "*.") ≡ true) {u : Text} (q : u ≡ drop 2 p) {e : Bool} (f : e ≡ eqb (length u) 0) where
+    opened : match_name (taken letters p) (lowered n) ≡ (not e && (eq_list (taken letters u) (lowered n) || one_label (taken letters (drop 1 p)) (lowered n)))
     unfolding match_name
-    opened = pick_true _ _ (sym starts ∙ y) ∙ rw (taken_length letters p) refl
+    opened = pick_true _ _ (sym starts ∙ y) ∙ rw (taken_length letters p, f, q, longer p, taken_drop letters 2 p, taken_drop letters 1 p) refl
 
-    pub name_bare : length p ≤ 2 → false ≡ match_name (taken letters p) (lowered n)
-    name_bare h = sym (opened ∙ rw (le-ltb 2 (length p) h) refl)
+    pub name_bare : e ≡ true → not e ≡ match_name (taken letters p) (lowered n)
+    name_bare h = sym (opened ∙ rw h refl)
 
-    module _ (h : 2 < length p) {a : Bool} (g : a ≡ eq_list (taken letters (take (length p - 2) (drop 2 p))) (lowered n)) where
-      apex : a ≡ eq_list (drop 2 (taken letters p)) (lowered n)
-      apex = g ∙ rw (rest 2 p, taken_drop letters 2 p) refl
-
-      pub name_apex : a ≡ true → true ≡ match_name (taken letters p) (lowered n)
-      name_apex z = sym (opened ∙ rw (lt-ltb 2 (length p) h, ← apex, z) refl)
+    module _ (h : e ≡ false) {a : Bool} (g : a ≡ eq_list (taken letters u) (lowered n)) where
+      pub name_apex : a ≡ true → a ≡ match_name (taken letters p) (lowered n)
+      name_apex z = sym (opened ∙ rw (h, ← g, z) refl)
 
       pub name_under : {r : Bool} → a ≡ false → r ≡ one_label (taken letters (take (length p - 1) (drop 1 p))) (lowered n) → r ≡ match_name (taken letters p) (lowered n)
-      name_under z t = t ∙ rw (rest 1 p, taken_drop letters 1 p) (sym (opened ∙ rw (lt-ltb 2 (length p) h, ← apex, z) refl))
+      name_under z t = t ∙ rw (rest 1 p) (sym (opened ∙ rw (h, ← g, z) refl))
 
 -- ---- cleaning
 -- lowering makes no dot and takes none away

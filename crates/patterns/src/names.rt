@@ -23,16 +23,14 @@ fn one_label(letters: Letters, tail: &[u8], name: &[u8]) -> bool
 pub fn match_name(letters: Letters, pattern: &[u8], name: &[u8]) -> bool
     ensures { result ≡ match_name (taken letters pattern.now) (lowered name.now) }
 {
-    if !text::starts_with(pattern, b"*.") {
-        return text::same_lowered(letters, pattern, name);
+    match pattern.strip_prefix(b"*.") {
+        Some(apex) => {
+            !apex.is_empty()
+                && (text::same_lowered(letters, apex, name)
+                    || one_label(letters, &pattern[1..], name))
+        }
+        None => text::same_lowered(letters, pattern, name),
     }
-    if pattern.len() <= 2 {
-        return false;
-    }
-    if text::same_lowered(letters, &pattern[2..], name) {
-        return true;
-    }
-    one_label(letters, &pattern[1..], name)
 }
 
 // The clean name, as a part of the name: the final dot is off, the letters are not lowered yet.
