@@ -1,41 +1,20 @@
 -- IP ranges as the code asks for them. Assumes nothing.
-use Prim.Native.Nat.{ℕ, suc, ◌+◌, ◌<◌}
+use Prim.Native.Nat.{ℕ, ◌+◌}
 use native.Mathlib.Omega.{arith}
-use native.Mathlib.Nat.{add-zero, sub-zero}
-use mathlib.Core.Path.{◌≡◌, refl, sym, ap₂, ◌∙◌}
-use mathlib.Core.List.{List, [], ◌∷◌}
+use mathlib.Core.Path.{◌≡◌, refl, sym, ◌∙◌}
+use mathlib.Core.List.{List}
 use mathlib.Core.Bool.{Bool, true, false, not, ◌&&◌, or-false, true≢false, false≢true}
 use lib.Dec.{eqb}
-use lib.ListN.{length, get_or, take, drop, length-drop}
-use lib.Seq.{length-take-le}
+use lib.ListN.{length}
 use borrow.Author.Tests.{eq-eqb, eqb-true}
-use Rattle.std.specs.List.{list_all, zip}
-use Rattle.std.proofs.lemmas.List.{get_or-take, get_or-drop}
-use Rattle.laws.specs.Lists.{all, run, rows, numbers}
-use Rattle.patterns.specs.Address.{masked_equal, agrees_at, in_range, ip_addr_in_range}
-
--- three lists in step, asked as g asks of the numbers from i on
-zip_run : (g : ℕ → Bool) (a b c : List ℕ) (i : ℕ) → length a ≡ length c → length b ≡ length c → ((k : ℕ) → k < length c → g (i + k) ≡ masked_equal (get_or a k 0) (get_or b k 0) (get_or c k 0)) → list_all (λ (x : (ℕ × ℕ) × ℕ). masked_equal x.0.0 x.0.1 x.1) (zip (zip a b) c) ≡ all g (run (λ n. n) i (length c))
-unfolding all run
-zip_run g [] [] [] i e f h = refl
-zip_run g [] b (z ∷ c) i e f h = absurd (omega arith)
-zip_run g (x ∷ a) b [] i e f h = absurd (omega arith)
-zip_run g [] (y ∷ b) [] i e f h = absurd (omega arith)
-zip_run g (x ∷ a) [] (z ∷ c) i e f h = absurd (omega arith)
-zip_run g (x ∷ a) (y ∷ b) (z ∷ c) i e f h = ap₂ ◌&&◌ (sym (rw add-zero at (h 0 (omega arith)))) (zip_run g a b c (i + 1) (omega arith) (omega arith) (λ k l. let q : i + 1 + k ≡ i + suc k = omega arith in rw q (h (suc k) (omega arith))))
+use Rattle.laws.specs.Lists.{all, numbers}
+use Rattle.patterns.specs.Address.{agrees_at, in_range, ip_addr_in_range}
 
 module _ (range address : List ℕ) where
   -- with the right lengths each byte is asked
   pub each_byte : (n : ℕ) → length range ≡ n + n → length address ≡ n → in_range n range address ≡ all (agrees_at n range address) (numbers 0 n)
   unfolding in_range
   each_byte n e f = rw (eq-eqb (length range) (n + n) e, eq-eqb (length address) n f) refl
-
-  -- the bytes of network and mask, taken in step with the address
-  pub in_step : {n : ℕ} {a b : List ℕ} → n ≡ length address → length range ≡ n + n → a ≡ take n range → b ≡ drop n range → list_all (λ (x : (ℕ × ℕ) × ℕ). masked_equal x.0.0 x.0.1 x.1) (zip (zip a b) address) ≡ all (agrees_at n range address) (numbers 0 n)
-  unfolding agrees_at rows
-  in_step {n} e l f h = rw (f, h, e, sub-zero) (zip_run (agrees_at (length address) range address) (take (length address) range) (drop (length address) range) address 0 (length-take-le _ _ (omega arith)) (omega (arith, length-drop (length address) range)) each_at) where
-    each_at : (k : ℕ) → k < length address → agrees_at (length address) range address (0 + k) ≡ masked_equal (get_or (take (length address) range) k 0) (get_or (drop (length address) range) k 0) (get_or address k 0)
-    each_at k m = let p : 0 + k ≡ k = omega arith in let q : length address + k ≡ k + length address = omega arith in rw (get_or-take (length address) range k 0 m, get_or-drop (length address) range k 0, p, q) refl
 
   -- with other lengths nothing lies in the range
   pub other_lengths : (n : ℕ) → (length range ≡ n + n → length address ≡ n → ⊥) → in_range n range address ≡ false
