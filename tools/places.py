@@ -30,13 +30,22 @@ def sources(commit):
             yield path, git("show", f"{commit}:{path}")
 
 
+def past(text, at, opens, closes):
+    """Where what is bracketed at a place ends, or the place itself where nothing is."""
+    depth = text[at] == opens
+    while depth:
+        at += 1
+        depth += {opens: 1, closes: -1}.get(text[at], 0)
+        if not depth:
+            return at + 1
+    return at
+
+
 def functions(text):
     """Each function's name, parameters, what it answers with, and body."""
-    for found in re.finditer(r"^( *)(?:pub )?(?:extern \"C\" )?fn (\w+)(?:<[^{(]*>)?\(", text, re.M):
-        end, depth = found.end(), 1
-        while depth:
-            depth += {"(": 1, ")": -1}.get(text[end], 0)
-            end += 1
+    for found in re.finditer(r"^( *)(?:pub )?(?:extern \"C\" )?fn (\w+)", text, re.M):
+        start = past(text.replace("->", "  "), found.end(), "<", ">") + 1
+        end = past(text, start - 1, "(", ")")
         close = text.index(f"\n{found[1]}}}\n", end)
         head, _, body = text[end:close].partition(f"\n{found[1]}{{\n")
         if not body:
