@@ -158,6 +158,7 @@ fn read_given<R: io::Read>(
     Ok(size)
 }
 
+// Words and bytes are lent apart, since both are written and a Lent is read only.
 // Reads a bundle to the start of the zeros lent: the words given, the words with the zeros behind them, the bytes given, the bytes with the zeros behind them; then the words and the bytes given.
 pub fn read_bundle<R: io::Read>(
     file: &mut R,
