@@ -25,7 +25,8 @@ use Rattle.sound.specs.declared.Place.TheVariants.{Nothing, Word, Certificate, P
 use Rattle.std.specs.declared.result.Result.TheVariants.{Ok, Err}
 use Rattle.std.specs.Prelude.{is_err}
 use Rattle.sound.specs.declared.Refusal.{Refusal}
-use Rattle.sound.specs.Answer.{bundle_number, place_kind, place_first, Before, First, Checked, refused, answer_of, first_word_fault, Verdict}
+use Rattle.sound.specs.Answer.{bundle_number, place_kind, place_first, Before, First, Checked, refused, Verdict}
+use Rattle.sound.specs.Steps.{answer_of, first_word_fault}
 use Rattle.sound.specs.Limits.{edition}
 use Rattle.quick.specs.Fine.{all_fine}
 use Rattle.quick.specs.Stated.{AllFine}

@@ -1,14 +1,10 @@
 -- What a check must answer (document 01, "What the judge says"): the lowest number wins, then the lowest word. Assumes nothing.
-use Rattle.std.specs.Prelude.{Option, Some, None, Result, Ok, Err, ⊤, ℕ, ◌<◌, ◌≡◌, ◌⊎◌, List, Bool, not, eqb}
-use Rattle.laws.specs.Lists.{pick}
-use Rattle.table.specs.Table.{word}
-use Rattle.sections.specs.declared.Fault.{Fault}
+use Rattle.std.specs.Prelude.{Result, Ok, Err, ⊤, ℕ, ◌<◌, ◌≡◌, ◌⊎◌, List}
 use Rattle.sound.specs.declared.Bundle.{Bundle}
 use Rattle.sound.specs.declared.Bundle.TheVariants.{Chain, Policy}
 use Rattle.sound.specs.declared.Place.{Place}
 use Rattle.sound.specs.declared.Place.TheVariants.{Nothing, Word, Certificate, Pair}
 use Rattle.sound.specs.declared.Refusal.{Refusal}
-use Rattle.sound.specs.Limits.{edition}
 use Rattle.sound.specs.ChainFault.{ChainFault}
 use Rattle.sound.specs.PolicyFault.{PolicyFault}
 
@@ -55,15 +51,6 @@ Checked = Result ⊤ Refusal
 -- the refusal of a bundle at one of its words
 abbrev pub refused : Bundle → ℕ → ℕ → Checked
 refused k n p = Err (record { number = n; bundle = k; place = Word p })
-
--- what is said of a bundle of which this was found
-abbrev pub answer_of : Bundle → Option Fault → Checked
-answer_of k None = Ok tt
-answer_of k (Some f) = refused k f.number f.word
-
--- refusals 2 and 3, of a bundle that is too large or not
-abbrev pub first_word_fault : List ℕ → Bool → Option Fault
-first_word_fault w large = pick large (Some (record { number = 2; word = 0 })) (pick (not (eqb (word w 0) edition)) (Some (record { number = 3; word = 0 })) None)
 
 -- the answer that the faults of a bundle ask for: sound if there is none, and else the first, with the bundle's number, and a word as its place
 abbrev pub Verdict : (ℕ → ℕ → Type 0) → Bundle → Checked → Type 0

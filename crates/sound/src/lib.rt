@@ -4,7 +4,8 @@
 ghost use Rattle.std.specs.Prelude.{◌≡◌, not, eqb, ltb};
 ghost use Rattle.table.specs.Table.{word as word_of, count_of};
 ghost use Rattle.model.specs.Sections.{certs};
-ghost use Rattle.sound.specs.Answer.{bundle_number, answer_of, first_word_fault, ChainVerdict, PolicyVerdict};
+ghost use Rattle.sound.specs.Answer.{bundle_number, ChainVerdict, PolicyVerdict};
+ghost use Rattle.sound.specs.Steps.{answer_of, first_word_fault};
 ghost use Rattle.sound.specs.Limits.{too_large, most_certs, edition};
 
 use model::chain::CERTS;
