@@ -3,6 +3,7 @@
 
 - A public function has a row, an `ensures` and no `requires`, but for those in UNSTATED. Its row quotes each clause, as `quoted` writes it, and names two wrong bodies; the edits that stand
   in bold are in a must-fail folder. A row has its function, and an edit its row or its mention.
+- A conversion, a `From` or `TryFrom` of a library, has a row too, which quotes its law.
 - A parameter that is a plain number stands in NUMBERS: what names a string, a certificate or a rule has a type of its own.
 - No definition in specs/ gives a symbol of the library a meaning of its own.
 - No must-fail edit only unfits its proof file: one whose new text names what isn't there, `rt ci` calls a bad edit, and .ci/run lets none pass; one that takes a
@@ -61,9 +62,11 @@ SYMBOLS = set("◌≡◌ ◌≢◌ ◌<◌ ◌≤◌ ◌+◌ ◌-◌ ◌*◌ ◌
 SYMBOLS |= set("length take drop get_or map not true false leb ltb eqb".split())
 
 FUNCTION = re.compile(r'^( *)pub (?:extern "C" )?fn (\w+)(?:<[^(]*>)?\((.*?)\)([^\n]*\{$|.*?\n\1\{)', re.DOTALL | re.MULTILINE)
+CONVERSION = re.compile(r"^impl (From|TryFrom)<(\w+)> for (\w+) \{\n(.*?)^\}", re.DOTALL | re.MULTILINE)
+LAW = re.compile(r"^    ghost (from|try_from)_gives = \{(.*?)\};$", re.MULTILINE)
 CLAUSE = re.compile(r"^ *ensures \{(.*?)\}$", re.DOTALL | re.MULTILINE)
 DEFINED = re.compile(r"^\s*(?:(?:pub|abbrev|unfoldable|opaque|record|data) )*(\S+)\s*(?:[({].*[)}])?\s*:(?=\s)", re.MULTILINE)
-ROW = re.compile(r"^\| `([\w:]+)` \|(.*)\|$", re.MULTILINE)
+ROW = re.compile(r"^\| `([\w:<> ]+)` \|(.*)\|$", re.MULTILINE)
 BOLD = re.compile(r"\*\*(\w+)\*\*")
 UNFIT = re.compile(r"^rt: must-fail (\S+): refused, as it must be \(only because a proof file names what the edit took away", re.MULTILINE)
 
@@ -88,6 +91,17 @@ def functions():
             text = file.read_text()
             for found in FUNCTION.finditer(text):
                 yield f"{path_of(crate, file, text, found.start())}::{found[2]}", found[3], found[4]
+
+
+def conversions():
+    """Each conversion of a library, by the name that a caller could write for it, and its law, or None."""
+    for crate in crates():
+        for file in sorted((TOP / "crates" / crate / "src").rglob("*.rt")):
+            if file.stem != "main":
+                for trait, given, made, body in CONVERSION.findall(file.read_text()):
+                    law = LAW.search(body)
+                    call = "from" if trait == "From" else "try_from"
+                    yield f"{crate}::<{made} as {trait}<{given}>>::{call}", law and quoted(law[2])
 
 
 def parameters(text):
@@ -130,6 +144,16 @@ def function_gaps(rows, kept):
         else:
             yield from row_gaps(name, rows[name], kept)
             yield from (f"{name}: its row doesn't quote `{due}`" for due in map(quoted, CLAUSE.findall(contract)) if f"`{due}`" not in rows[name])
+    for name, law in conversions():
+        seen.add(name)
+        if law is None:
+            yield f"{name} has no law that says what it gives"
+        elif name not in rows:
+            yield f"{name} has no row in {AUDIT}"
+        else:
+            yield from row_gaps(name, rows[name], kept)
+            if f"`{law}`" not in rows[name]:
+                yield f"{name}: its row doesn't quote `{law}`"
     for name in rows.keys() - seen:
         yield f"{AUDIT} has a row for {name}, and there is no such public function"
 

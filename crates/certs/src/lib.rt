@@ -25,15 +25,18 @@ pub fn cert_range(words: &[u64], c: CertRow, j: u32, s: Section) -> Range
 }
 
 // The string that word j of a certificate names.
-pub fn cert_string<'a>(chain: Lent<'a>, c: CertRow, j: u64) -> &'a [u8]
+pub fn cert_string<'b>(chain: Lent<'_, 'b>, c: CertRow, j: u64) -> &'b [u8]
     ensures { result.now ≡ string_of chain.entry.words.now chain.entry.bytes.now (cert_word chain.entry.words.now c.0 j) }
 {
     table::string_named(chain, CERTS, c.0, j)
 }
 
-// The number that a word is in two's complement.
+// The number that a word is in two's complement, without a cast that could lose a bit.
 pub fn signed(word: u64) -> i64
     ensures { result ≡ signed_of word }
 {
-    word.cast_signed()
+    if word < 9223372036854775808 {
+        return word as i64;
+    }
+    -1 - (18446744073709551615 - word) as i64
 }

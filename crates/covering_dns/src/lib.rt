@@ -22,7 +22,7 @@ pub enum Covering {
 // A chain, where its names and strings begin, the name before which a loop ends, and how many strings there are. They are read where they stand in the lent words: what is read begins where the header says, and lies inside the words.
 #[derive(Clone, Copy)]
 struct Rows<'a> {
-    chain: Lent<'a>,
+    chain: Lent<'a, 'a>,
     names: u64,
     strings: u64,
     end: u64,

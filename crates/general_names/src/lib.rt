@@ -15,7 +15,7 @@ pub fn kind(words: &[u64], n: NameNo) -> u64
 }
 
 // A name's x as a string.
-pub fn name_text<'a>(chain: Lent<'a>, n: NameNo) -> &'a [u8]
+pub fn name_text<'b>(chain: Lent<'_, 'b>, n: NameNo) -> &'b [u8]
     ensures { result.now ≡ name_text chain.entry.words.now chain.entry.bytes.now n.0 }
 {
     table::string_named(chain, NAMES, n.0, 1)

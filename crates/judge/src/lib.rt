@@ -15,7 +15,7 @@ use sound::{Bundle, Place, Refusal};
 use table::{Lent, RuleNo};
 
 // What a policy without lists lends.
-const NO_LISTS: Lent<'static> = Lent {
+const NO_LISTS: Lent<'static, 'static> = Lent {
     words: &[],
     bytes: &[],
 };
@@ -81,7 +81,7 @@ fn judge_checked(checked: Result<(), Refusal>, case: Case, report: &mut [u32]) -
 }
 
 // Judges a chain as an OpenSSL client would.
-pub fn openssl(chain: Lent, report: &mut [u32]) -> Answer
+pub fn openssl<'a>(chain: Lent<'a, 'a>, report: &mut [u32]) -> Answer
     ensures { OpenSslJudged chain.entry.words.now chain.entry.bytes.now report.old report.new result }
 {
     let case = Case {

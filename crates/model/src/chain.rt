@@ -64,7 +64,7 @@ pub fn rows_named(words: &[u64], s: Section, n: u64, j: u64, of: Section) -> Ran
 }
 
 // The string that a word gives: none where it is 0, and else the one whose number is one less.
-pub fn optional_string<'a>(chain: Lent<'a>, word: u64) -> Option<&'a [u8]>
+pub fn optional_string<'b>(chain: Lent<'_, 'b>, word: u64) -> Option<&'b [u8]>
     ensures { Shows result (optional_string chain.entry.words.now chain.entry.bytes.now word) }
 {
     let n = word.checked_sub(1)?;
@@ -72,7 +72,7 @@ pub fn optional_string<'a>(chain: Lent<'a>, word: u64) -> Option<&'a [u8]>
 }
 
 // The host, if there is one.
-pub fn host<'a>(chain: Lent<'a>) -> Option<&'a [u8]>
+pub fn host<'b>(chain: Lent<'_, 'b>) -> Option<&'b [u8]>
     ensures { Shows result (task_of chain.entry.words.now chain.entry.bytes.now).host }
 {
     optional_string(chain, table::word(chain.words, HOST))

@@ -17,7 +17,7 @@ pub struct ListNo(pub usize);
 #[derive(Clone, Copy)]
 pub struct EntryNo(pub u64);
 
-pub fn entry<'a>(lists: Lent<'a>, n: EntryNo) -> &'a [u8]
+pub fn entry<'b>(lists: Lent<'_, 'b>, n: EntryNo) -> &'b [u8]
     ensures { result.now ≡ entry_at lists.entry.words.now lists.entry.bytes.now n.0 }
 {
     table::string_named(lists, ENTRIES, n.0, 0)

@@ -1,11 +1,21 @@
 // IP ranges.
-ghost use Rattle.std.specs.Prelude.{◌≡◌};
-ghost use Rattle.patterns.specs.Address.{masked_equal, ip_addr_in_range};
+ghost use Rattle.std.specs.Prelude.{◌≡◌, ◌+◌, length};
+ghost use Rattle.patterns.specs.Address.{masked_equal, in_range, ip_addr_in_range};
 
 fn masked_equal(network: u8, mask: u8, address: u8) -> bool
     ensures { result ≡ masked_equal network mask address }
 {
     network & mask == address & mask
+}
+
+// Whether an address of n bytes lies in a range of twice as many. By index: a chain of zips over three slices was proved too, and took more instructions.
+// Inlined, so that n is a constant where it is asked: else addresses of 4 bytes took a seventh longer.
+#[inline(always)]
+fn in_range(n: usize, range: &[u8], address: &[u8]) -> bool
+    requires { (length range.now ≡ n + n) × (length address.now ≡ n) }
+    ensures { result ≡ in_range n range.now address.now }
+{
+    (0..n).all(|i| masked_equal(range[i], range[i + n], address[i]))
 }
 
 // Whether an address of 4 or 16 bytes lies in the range, which holds as many bytes of network and then as many of mask.
@@ -16,9 +26,9 @@ pub fn ip_addr_in_range(range: &[u8], address: &[u8]) -> bool
     if range.len() != n + n {
         return false;
     }
-    if (n != 4) & (n != 16) {
-        return false;
+    match n {
+        4 => in_range(4, range, address),
+        16 => in_range(16, range, address),
+        _ => false,
     }
-    // By index: a chain of zips over three slices was proved too, and took 220 instructions instead of 154 for 16 bytes, 89 instead of 72 for 4.
-    (0..n).all(|i| masked_equal(range[i], range[i + n], address[i]))
 }

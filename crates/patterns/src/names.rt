@@ -23,14 +23,12 @@ fn one_label(letters: Letters, tail: &[u8], name: &[u8]) -> bool
 pub fn match_name(letters: Letters, pattern: &[u8], name: &[u8]) -> bool
     ensures { result ≡ match_name (taken letters pattern.now) (lowered name.now) }
 {
-    match pattern.strip_prefix(b"*.") {
-        Some(apex) => {
-            !apex.is_empty()
-                && (text::same_lowered(letters, apex, name)
-                    || one_label(letters, &pattern[1..], name))
-        }
-        None => text::same_lowered(letters, pattern, name),
+    if !text::starts_with(pattern, b"*.") {
+        return text::same_lowered(letters, pattern, name);
     }
+    let apex = &pattern[2..];
+    !apex.is_empty()
+        && (text::same_lowered(letters, apex, name) || one_label(letters, &pattern[1..], name))
 }
 
 // The clean name, as a part of the name: the final dot is off, the letters are not lowered yet.
@@ -51,23 +49,27 @@ pub fn permit_name(constraint: &[u8], name: &[u8]) -> bool
 fn host_text(s: &[u8]) -> bool
     ensures { result ≡ host_text s.now }
 {
-    !s.is_empty() & ascii::all_host_bytes(s)
+    !s.is_empty() && ascii::all_host_bytes(s)
 }
 
-// Whether a pattern is one that OpenSSL takes.
+// Whether a pattern is one that OpenSSL takes. A long text that begins with a wrong byte is gone through no further.
 pub fn check_valid_pattern(pattern: &[u8]) -> bool
     ensures { result ≡ check_valid_pattern pattern.now }
 {
-    match pattern.strip_prefix(b"*.") {
-        Some(tail) => host_text(tail) & ascii::has_class(tail, ascii::DOT),
-        None => host_text(pattern),
+    if !text::starts_with(pattern, b"*.") {
+        return host_text(pattern);
     }
+    let tail = &pattern[2..];
+    host_text(tail) && ascii::has_class(tail, ascii::DOT)
 }
 
-// Whether a DNS constraint is one that Chrome takes.
+// Whether a DNS constraint is one that Chrome takes. The whole text is gone through only where its end is right.
 pub fn valid_name_constraint(constraint: &[u8]) -> bool
     ensures { result ≡ valid_name_constraint constraint.now }
 {
     let name = clean_name(constraint);
-    !name.is_empty() & !name.ends_with(b".") & !ascii::has_class(name, ascii::STAR)
+    if name.is_empty() {
+        return false;
+    }
+    !name.ends_with(b".") && !ascii::has_class(name, ascii::STAR)
 }

@@ -62,7 +62,7 @@ fn usages_fine(words: &[u64]) -> bool
 // A chain bundle whose rows of S end inside the words, and whose strings lie in the bytes; and how many strings there are. Where it is built that is proved, so no method asks for it.
 #[derive(Clone, Copy)]
 struct Readable<'a> {
-    chain: Lent<'a>,
+    chain: Lent<'a, 'a>,
     strings: u64,
     // Each string may be read where it stands.
     ghost lie: { StringsLie chain.words.now chain.bytes.now },

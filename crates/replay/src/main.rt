@@ -33,7 +33,7 @@ impl Room {
     }
 
     // Reads a bundle to its start, and gives it as a judge takes it.
-    fn read<R: io::Read>(&mut self, file: &mut R) -> Result<Lent<'_>, Ended> {
+    fn read<R: io::Read>(&mut self, file: &mut R) -> Result<Lent<'_, '_>, Ended> {
         let size = data_file::read_bundle(file, &mut self.words, &mut self.bytes)?;
         Ok(Lent {
             words: data_file::words_to(&self.words, size.words),
@@ -46,8 +46,8 @@ impl Room {
 #[derive(Drop)]
 struct Case<'a> {
     policy: u64,
-    chain: Lent<'a>,
-    lists: Lent<'a>,
+    chain: Lent<'a, 'a>,
+    lists: Lent<'a, 'a>,
     room: u64,
     due: [u64; 1308],
 }

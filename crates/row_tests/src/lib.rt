@@ -121,7 +121,7 @@ fn optional_high(lent: Lent, p: usize) -> bool
 // A row of a bundle that does not begin past the last word, so that no sum wraps.
 #[derive(Clone, Copy)]
 struct Row<'a> {
-    lent: Lent<'a>,
+    lent: Lent<'a, 'a>,
     start: usize,
     ghost inside: { start ≤ length lent.words.now },
 }

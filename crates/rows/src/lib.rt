@@ -7,13 +7,13 @@ ghost use Rattle.model.specs.Decode.{oid_at, value_at, rdn_range, usage_word};
 use model::chain::{ATTRIBUTES, AttributeNo, RDNS, RdnNo, USAGES, UsageNo, rows_named};
 use table::{Lent, Range};
 
-pub fn oid<'a>(chain: Lent<'a>, a: AttributeNo) -> &'a [u8]
+pub fn oid<'b>(chain: Lent<'_, 'b>, a: AttributeNo) -> &'b [u8]
     ensures { result.now ≡ oid_at chain.entry.words.now chain.entry.bytes.now a.0 }
 {
     table::string_named(chain, ATTRIBUTES, a.0, 0)
 }
 
-pub fn value<'a>(chain: Lent<'a>, a: AttributeNo) -> &'a [u8]
+pub fn value<'b>(chain: Lent<'_, 'b>, a: AttributeNo) -> &'b [u8]
     ensures { result.now ≡ value_at chain.entry.words.now chain.entry.bytes.now a.0 }
 {
     table::string_named(chain, ATTRIBUTES, a.0, 1)

@@ -12,7 +12,7 @@ use Rattle.sans.specs.declared.Kind.{Kind}
 use Rattle.sans.specs.declared.Kind.TheVariants.{Dns, Directory, Ip}
 use Rattle.sans.specs.Sans.{number_of, is_kind, dns_and, directory_and, ip_and}
 
-number_low : (k : Kind) → number_of k < 3
+pub number_low : (k : Kind) → number_of k < 3
 number_low Dns = omega arith
 number_low Directory = omega arith
 number_low Ip = omega arith

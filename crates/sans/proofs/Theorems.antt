@@ -1,6 +1,7 @@
 -- What the definitions of this crate mean: the same said with "for every" and "for some". Assumes nothing.
 use native.Mathlib.Omega.{arith}
-use mathlib.Core.Path.{◌≡◌, refl}
+use Prim.Native.Nat.{ℕ}
+use mathlib.Core.Path.{◌≡◌, refl, sym, ap, ◌∙◌}
 use mathlib.Core.Logic.{◌↔◌}
 use mathlib.Core.List.{List, []}
 use mathlib.Core.Bool.{Bool, true, false, not, ◌||◌, false≢true}
@@ -12,8 +13,14 @@ use Rattle.laws.proofs.Meaning.{any_index, index_any, all_index, index_all, any_
 use Rattle.laws.proofs.Tests.{and_left, and_right}
 use Rattle.model.specs.Model.{Bytes, Attribute, Name, GeneralName, dns, directory, ip, other, unsupported, San, Cert}
 use Rattle.names.specs.Stated.{no_attribute, attribute_of, rdn_of}
-use Rattle.sans.specs.declared.Kind.TheVariants.{Dns}
-use Rattle.sans.specs.Sans.{is_kind, dns_and, check_san_has_dns, is_common, common_and, if_common, some_common, each_common}
+use Rattle.std.specs.declared.result.Result.{Result}
+use Rattle.std.specs.declared.result.Result.TheVariants.{Ok, Err}
+use Rattle.sans.specs.declared.Kind.{Kind}
+use Rattle.sans.specs.declared.Kind.TheVariants.{Dns, Directory, Ip}
+use Rattle.sans.specs.declared.OtherKind.{OtherKind}
+use Rattle.sans.specs.Kinds.{Decodes}
+use Rattle.sans.specs.Sans.{number_of, is_kind, dns_and, check_san_has_dns, is_common, common_and, if_common, some_common, each_common}
+use Rattle.sans.proofs.Laws.{number_low}
 use Rattle.sans.specs.Stated.{SomeDns, CheckSanHasDns, IsCommon, SomeCommon, EachCommon}
 
 -- what is there and passes
@@ -100,3 +107,21 @@ module _ (p : Bytes → Bool) where
 
     from : EachCommon p n → each_common p n ≡ true
     from f = index_all [] (all (if_common p)) n (λ i a l. index_all no_attribute (if_common p) _ (λ j b m. common_if _ (f i l j m)))
+
+-- ---- a word as a kind: two answers that `Decodes` allows are equal
+number_once : (k l : Kind) → number_of k ≡ number_of l → k ≡ l
+number_once Dns Dns e = refl
+number_once Dns Directory e = absurd (omega (arith, e))
+number_once Dns Ip e = absurd (omega (arith, e))
+number_once Directory Dns e = absurd (omega (arith, e))
+number_once Directory Directory e = refl
+number_once Directory Ip e = absurd (omega (arith, e))
+number_once Ip Dns e = absurd (omega (arith, e))
+number_once Ip Directory e = absurd (omega (arith, e))
+number_once Ip Ip e = refl
+
+pub decodes_once : (word : ℕ) (r s : Result Kind OtherKind) → Decodes word r → Decodes word s → r ≡ s
+decodes_once word (Ok k) (Ok l) e f = ap Ok (number_once k l (sym e ∙ f))
+decodes_once word (Ok k) (Err o) e f = let h = number_low k in absurd (omega (arith, e, f.1, h))
+decodes_once word (Err o) (Ok l) e f = let h = number_low l in absurd (omega (arith, e.1, f, h))
+decodes_once word (Err o) (Err p) e f = ap (λ n. Err (record { 0 = n })) (e.0 ∙ sym f.0)

@@ -2,7 +2,7 @@
 use Prim.Native.Nat.{ℕ, ◌+◌, ◌-◌, ◌*◌, ◌/◌, ◌≤◌, ◌<◌, min}
 use native.Mathlib.Omega.{arith}
 use native.Mathlib.Decide.{dec_lt}
-use native.Mathlib.Nat.{add-sub_cancel_left, div-lt_iff_lt-mul, le-div_iff_mul-le, min-eq_left}
+use native.Mathlib.Nat.{add-sub_cancel_left, div-lt_iff_lt-mul, le-div_iff_mul-le, zero-mul, zero-min, min-eq_left}
 use mathlib.Core.Path.{◌≡◌, refl, sym, ap, ◌∙◌}
 use mathlib.Core.List.{List, []}
 use lib.ListN.{length, take, drop, length-drop, drop_of_length-le, get_or-eq_default}
@@ -36,6 +36,17 @@ module _ (size at n total : ℕ) (s : size ≡ 0 → ⊥) (l : at ≤ total) whe
 
   pub ends_inside : n ≤ (total - at) / size → at + size * n ≤ total
   ends_inside h = omega (arith, (le-div_iff_mul-le {k = size} {x = n} {y = total - at} (omega arith)).0 h)
+
+-- ---- what n rows of `size` words take, told by a division, which can't wrap
+module _ (size n largest : ℕ) where
+  pub none_taken : size ≡ 0 → 0 ≡ min (size * n) largest
+  none_taken z = rw (z, zero-mul) (sym (zero-min largest))
+
+  pub too_many : (size ≡ 0 → ⊥) → largest / size < n → largest ≡ min (size * n) largest
+  too_many s h = omega (arith, (div-lt_iff_lt-mul {k = size} {x = largest} {y = n} (omega arith)).0 h)
+
+  pub product_fits : (size ≡ 0 → ⊥) → n ≤ largest / size → size * n ≤ largest
+  product_fits s h = omega (arith, (le-div_iff_mul-le {k = size} {x = n} {y = largest} (omega arith)).0 h)
 
 -- ---- where a row begins; `at` is where the section says that it begins, and `most` a number of words that no slice has
 module _ (w : List ℕ) (s : Section) (n : ℕ) {at : ℕ} (e : at ≡ offset_of w s) (most : ℕ) (l : length w ≤ most) where
@@ -71,3 +82,13 @@ module _ (w : List ℕ) (s : Section) (n j : ℕ) {r : Two} (e : r ≡ two_field
   pub second_is : r.second ≡ field_of w s n (j + 1)
   unfolding two_fields_of
   second_is = ap (λ (x : Two). x.second) e
+
+-- ---- a range
+module _ (first n rows : ℕ) where
+  pub clip_all : rows - first ≤ n → record { from = first; to = rows } ≡ range_of first n rows
+  unfolding range_of
+  clip_all h = let q : min (first + n) rows ≡ rows = omega arith in rw q refl
+
+  pub clip_some : first + n ≤ rows → record { from = first; to = first + n } ≡ range_of first n rows
+  unfolding range_of
+  clip_some h = let q : min (first + n) rows ≡ first + n = omega arith in rw q refl

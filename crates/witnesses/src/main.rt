@@ -27,7 +27,7 @@ impl Room {
     }
 
     // Reads a bundle to its start, and gives it as a judge takes it.
-    fn read<R: io::Read>(&mut self, file: &mut R) -> Result<Lent<'_>, Ended> {
+    fn read<R: io::Read>(&mut self, file: &mut R) -> Result<Lent<'_, '_>, Ended> {
         let size = data_file::read_bundle(file, &mut self.words, &mut self.bytes)?;
         Ok(Lent {
             words: data_file::words_to(&self.words, size.words),
@@ -79,7 +79,7 @@ fn read_pair<'a, R: io::Read>(
     file: &mut R,
     chain: &'a mut Room,
     lists: &'a mut Room,
-) -> Result<(Lent<'a>, Lent<'a>), Ended> {
+) -> Result<(Lent<'a, 'a>, Lent<'a, 'a>), Ended> {
     Ok((chain.read(file)?, lists.read(file)?))
 }
 

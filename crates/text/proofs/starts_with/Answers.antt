@@ -1,7 +1,13 @@
-use mathlib.Core.Path.{◌∙◌}
-use Rattle.text.proofs.Chains.{each_of_pointwise}
-use Rattle.text.proofs.Laws.{start_of}
+use mathlib.Core.Path.{sym}
+use lib.Seq.{length-take-le}
+use Rattle.text.proofs.Laws.{start_short, start_same}
 use Rattle.text.proofs.starts_with.Goals as goal
 
+pub returns-then-s-k : goal.returns-then-s-k
+returns-then-s-k c = start_short _ _ c.if-s-k.true
+
+pub slice_bounds-same-end : goal.slice_bounds-same-end
+slice_bounds-same-end c = sym (length-take-le _ _ c.if-s-k.false)
+
 pub returns : goal.returns
-returns c = start_of _ _ (c.starts_with.ensures.value ∙ each_of_pointwise _ _ _)
+returns c = start_same _ _ c.if-s-k.false c.same.ensures

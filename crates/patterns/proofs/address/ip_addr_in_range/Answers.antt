@@ -1,17 +1,15 @@
-use mathlib.Core.Path.{refl}
-use Rattle.std.proofs.Common.{rules}
-use Rattle.std.proofs.lemmas.Iterator.{YieldsList-from_range}
-use Rattle.laws.proofs.Chains.{all_over}
-use Rattle.patterns.specs.Address.{agrees_at}
-use Rattle.patterns.proofs.Ranges.{neither, of_no_size, of_size}
+use native.Mathlib.Omega.{arith}
+use Rattle.patterns.proofs.Ranges.{neither, of_four, of_sixteen}
 use Rattle.patterns.proofs.address.ip_addr_in_range.Goals as goal
 
 pub returns-then-range-n : goal.returns-then-range-n
 returns-then-range-n c = neither _ _ (λ e f. c.if-range-n.true e) (λ e f. c.if-range-n.true e)
 
-pub returns-then-n : goal.returns-then-n
-returns-then-n c = of_no_size _ _ c.if-n.true
+pub returns-in-4 : goal.returns-in-4
+returns-in-4 c = of_four _ _ c.in-4.is c.in_range.ensures
 
-pub returns : goal.returns
-unfolding agrees_at
-returns c = of_size _ _ c.if-n.false c.if-range-n.false (all_over (agrees_at _ c.args.range.now c.args.address.now) (λ i. i) _ _ _ c.all.ensures.ran (YieldsList-from_range _ _ _ refl refl) (λ i b q k. search rules))
+pub returns-in-16 : goal.returns-in-16
+returns-in-16 c = of_sixteen _ _ c.in-16.is c.in_range-in-16.ensures
+
+pub returns-in_default : goal.returns-in_default
+returns-in_default c = neither _ _ (λ e f. omega (arith, f)) (λ e f. omega (arith, f))
